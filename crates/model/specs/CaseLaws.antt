@@ -1,0 +1,78 @@
+-- The definitions of the model at the cases: all nine are admitted, and the plan that document 01 prints for case a is a schedule of it with the
+-- printed pair. Assumes nothing.
+use mathlib.Core.Path.{_≡_, refl}
+use mathlib.Core.List.{List, [], _∷_, map}
+use Prim.Native.Nat.{ℕ, zero, suc, _+_, _-_, _≤_, _<_}
+use native.Mathlib.Omega.{arith}
+use lib.Dec.{eqb}
+use lib.IntN.{pos}
+use Rattle.numbers.specs.Counting.{at, nth, count}
+use Rattle.model.specs.Schedule.{Open, InWindows, Schedule}
+use Rattle.model.specs.Arrival.{arrivalBehind}
+use Rattle.model.specs.Lateness.{Pair, greatest-lateness, pairOf}
+use Rattle.model.specs.Sheet.{Sheet}
+use Rattle.model.specs.Memory.{windowsOf}
+use Rattle.model.specs.Admission.{Admission, admitted, admission}
+use Rattle.model.specs.Cases.{cases, case-a, memory-a}
+
+pub cases-are-admitted : map admission cases ≡ (admitted ∷ admitted ∷ admitted ∷ admitted ∷ admitted ∷ admitted ∷ admitted ∷ admitted ∷ admitted ∷ [])
+unfolding cases admission
+cases-are-admitted = refl
+
+-- L,A,2 · L,B,1 · L,C,2
+abbrev train-a : List ℕ
+train-a = 2 ∷ 1 ∷ 2 ∷ []
+
+-- D,1,40 · D,2,100
+abbrev departure-a : List ℕ
+departure-a = 40 ∷ 100 ∷ []
+
+pub printed-plan : Schedule case-a train-a departure-a
+unfolding count
+printed-plan =
+    record {
+      placed = refl;
+      on-a-train = placed;
+      departs = refl;
+      full = full;
+      released = released;
+      departures = record { in-window = in-window; spaced = spaced };
+    }
+  where
+    placed : (j : ℕ) → j < 3 → (1 ≤ at train-a j) × (at train-a j ≤ 2)
+    placed zero l = (omega arith, omega arith)
+    placed (suc zero) l = (omega arith, omega arith)
+    placed (suc (suc zero)) l = (omega arith, omega arith)
+    placed (suc (suc (suc j))) l = absurd (omega arith)
+
+    full : (i : ℕ) → 1 ≤ i → i ≤ 2 → count (λ j. eqb (at train-a j) i) 3 ≡ case-a .capacity i
+    full zero l k = absurd (omega arith)
+    full (suc zero) l k = refl
+    full (suc (suc zero)) l k = refl
+    full (suc (suc (suc i))) l k = absurd (omega arith)
+
+    released : (j : ℕ) → j < 3 → case-a .release j ≤ nth departure-a (at train-a j)
+    released zero l = omega arith
+    released (suc zero) l = omega arith
+    released (suc (suc zero)) l = omega arith
+    released (suc (suc (suc j))) l = absurd (omega arith)
+
+    first-window : {t : ℕ} → t ≤ 100 → Open (windowsOf memory-a) t
+    first-window l = record { window = 1; numbered = (omega arith, omega arith); begun = omega arith; not-over = l }
+
+    in-window : (i : ℕ) → 1 ≤ i → i ≤ 2 → Open (windowsOf memory-a) (nth departure-a i)
+    in-window zero l k = absurd (omega arith)
+    in-window (suc zero) l k = first-window (omega arith)
+    in-window (suc (suc zero)) l k = first-window (omega arith)
+    in-window (suc (suc (suc i))) l k = absurd (omega arith)
+
+    spaced : (i : ℕ) → 1 < i → i ≤ 2 → nth departure-a (i - 1) + 60 ≤ nth departure-a i
+    spaced zero l k = absurd (omega arith)
+    spaced (suc zero) l k = absurd (omega arith)
+    spaced (suc (suc zero)) l k = omega arith
+    spaced (suc (suc (suc i))) l k = absurd (omega arith)
+
+-- P,130,70
+pub printed-pair : pairOf case-a train-a departure-a ≡ record { last = 130; worst = pos 70 }
+unfolding arrivalBehind greatest-lateness
+printed-pair = refl

@@ -1,0 +1,81 @@
+-- `Decides P b`: the computed test b passes exactly where P holds. Assumes nothing.
+use mathlib.Core.Path.{_≡_, refl, subst}
+use mathlib.Core.Logic.{_⊎_, inl, inr}
+use mathlib.Core.Bool.{Bool, true, false, not, _&&_, _||_, cond}
+use Prim.Native.Nat.{ℕ, zero, suc, _≤_, _<_}
+use native.Mathlib.Omega.{arith}
+use lib.Dec.{T, leb, ltb, eqb, leb→le, le→leb, ltb→lt, lt→ltb, eqb→eq, eqb-refl}
+use lib.IntN.{ℤ}
+use lib.Signed.{ltZ, _<ℤ_, ltZ-yes}
+use Rattle.numbers.specs.Counting.{every, each}
+
+pub record Decides (P : Type 0) (b : Bool) : Type 0 where
+  pub sound : T b → P
+  pub complete : P → T b
+
+pub decides-le : (m n : ℕ) → Decides (m ≤ n) (leb m n)
+decides-le m n = record { sound = leb→le m n; complete = le→leb m n }
+
+pub decides-lt : (m n : ℕ) → Decides (m < n) (ltb m n)
+decides-lt m n = record { sound = ltb→lt m n; complete = lt→ltb m n }
+
+pub decides-eq : (m n : ℕ) → Decides (m ≡ n) (eqb m n)
+decides-eq m n = record { sound = eqb→eq m n; complete = λ e. subst (λ (x : ℕ). T (eqb m x)) e (eqb-refl m) }
+
+pub decides-ltℤ : (a b : ℤ) → Decides (a <ℤ b) (ltZ a b)
+decides-ltℤ a b = record { sound = ltZ-yes; complete = λ h. h .lt }
+
+pub decides-and : {P Q : Type 0} {a b : Bool} → Decides P a → Decides Q b → Decides (P × Q) (a && b)
+decides-and {a = true} {b} s t = record { sound = λ x. (s .sound tt, t .sound x); complete = λ x. t .complete (x .1) }
+decides-and {a = false} {b} s t = record { sound = λ x. absurd x; complete = λ x. s .complete (x .0) }
+
+-- a test of what P says in other words
+pub decides-iff : {P Q : Type 0} {b : Bool} → (P → Q) → (Q → P) → Decides P b → Decides Q b
+decides-iff f g s = record { sound = λ x. f (s .sound x); complete = λ x. s .complete (g x) }
+
+pub decided : {P : Type 0} {b : Bool} → Decides P b → P ⊎ (¬ P)
+decided {b = true} s = inl (s .sound tt)
+decided {b = false} s = inr (λ x. s .complete x)
+
+pub test-true : {P : Type 0} {b : Bool} → Decides P b → P → b ≡ true
+test-true {b = true} s p = refl
+test-true {b = false} s p = absurd (s .complete p)
+
+pub test-false : {P : Type 0} {b : Bool} → Decides P b → ¬ P → b ≡ false
+test-false {b = true} s p = absurd (p (s .sound tt))
+test-false {b = false} s p = refl
+
+-- ---- a choice by a test
+
+pub cond-yes : {A P : Type 0} {b : Bool} → Decides P b → P → (x y : A) → cond b x y ≡ x
+cond-yes {b = true} s p x y = refl
+cond-yes {b = false} s p x y = absurd (s .complete p)
+
+pub cond-no : {A P : Type 0} {b : Bool} → Decides P b → ¬ P → (x y : A) → cond b x y ≡ y
+cond-no {b = true} s p x y = absurd (p (s .sound tt))
+cond-no {b = false} s p x y = refl
+
+-- ---- every place, each number
+
+-- what holds below n and at n holds below suc n
+pub extend : {P : ℕ → Type 0} (n : ℕ) → ((j : ℕ) → j < n → P j) → P n → (j : ℕ) → j < suc n → P j
+extend {P} n f z j l = go (decided (decides-eq n j))
+  where
+    go : (n ≡ j) ⊎ (¬ (n ≡ j)) → P j
+    go (inl e) = subst P e z
+    go (inr e) = f j (omega arith)
+
+module _ {P : ℕ → Type 0} {p : ℕ → Bool} (d : (j : ℕ) → Decides (P j) (p j)) where
+  pub decides-every : (n : ℕ) → Decides ((j : ℕ) → j < n → P j) (every p n)
+  unfolding every
+  decides-every zero = record { sound = λ x j l. absurd (omega arith); complete = λ x. tt }
+  decides-every (suc n) =
+      decides-iff (λ x. extend n (x .1) (x .0)) (λ f. (f n (omega arith), λ j l. f j (omega arith))) (decides-and (d n) (decides-every n))
+
+-- what holds of suc 0, .., suc (q − 1) holds of 1, .., q
+pub numbered : (P : ℕ → Type 0) (q : ℕ) → ((m : ℕ) → m < q → P (suc m)) → (i : ℕ) → 1 ≤ i → i ≤ q → P i
+numbered P q f zero l k = absurd (omega arith)
+numbered P q f (suc m) l k = f m (omega arith)
+
+pub decides-each : {P : ℕ → Type 0} {p : ℕ → Bool} → ((i : ℕ) → Decides (P i) (p i)) → (q : ℕ) → Decides ((i : ℕ) → 1 ≤ i → i ≤ q → P i) (each p q)
+decides-each {P} d q = decides-iff (λ f. numbered P q f) (λ f m l. f (suc m) (omega arith) (omega arith)) (decides-every (λ m. d (suc m)) q)

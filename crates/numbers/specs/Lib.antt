@@ -1,0 +1,4 @@
+pub mod Counting
+pub mod Decides
+pub mod CountingLaws
+pub mod SignedLaws

@@ -1,0 +1,1 @@
+// No code: counting words and their laws stand in specs/.
