@@ -1,7 +1,11 @@
 pub mod Loading
+pub mod LoadingLaws
 pub mod Timing
+pub mod TimingLaws
 pub mod Recording
 pub mod Lowering
+pub mod LoweringLaws
 pub mod Rounds
+pub mod RoundsLaws
 pub mod Areas
 pub mod Cases

@@ -29,6 +29,13 @@ above-everything = pos 1000000000
 unfoldable pub start : Sheet → Search
 start s = going 0 (replicate (s .orders) (s .trains)) above-everything nothing
 
+-- steps 1 and 2 of a sheet
+abbrev pub loading : Sheet → (latest : List ℕ) → List ℕ
+loading s latest = load (s .orders) (s .trains) (s .release) (s .capacity) latest
+
+abbrev pub times : Sheet → (train : List ℕ) → Timed
+times s train = timing (s .form) (s .trains) (ready (s .release) train (s .orders))
+
 -- steps 4 and 5, at the limit y
 unfoldable pub settle : Sheet → (rounds : ℕ) (latest : List ℕ) (y : ℤ) (found : Recorded) (F : ℕ → ℕ) → Search
 unfolding lower crowded
@@ -58,8 +65,7 @@ unfoldable pub round : Sheet → Search → Search
 unfolding load ready timing depart
 round s (ended c found) = ended c found
 round s (going c latest y found) =
-    let train : List ℕ = load (s .orders) (s .trains) (s .release) (s .capacity) latest in
-    depart s (suc c) latest y found train (timing (s .form) (s .trains) (ready (s .release) train (s .orders)))
+    let train : List ℕ = loading s latest in depart s (suc c) latest y found train (times s train)
 
 unfoldable pub rounds : Sheet → ℕ → Search → Search
 unfolding round
