@@ -42,6 +42,15 @@ every p (suc n) = p n && every p n
 abbrev pub each : (ℕ → Bool) → ℕ → Bool
 each p q = every (λ m. p (suc m)) q
 
+-- f 0 + … + f (n − 1)
+unfoldable pub sum : (ℕ → ℕ) → ℕ → ℕ
+sum f zero = 0
+sum f (suc n) = sum f n + f n
+
+-- f 1 + … + f q
+abbrev pub total : (ℕ → ℕ) → ℕ → ℕ
+total f q = sum (λ m. f (suc m)) q
+
 abbrev pub larger : ℤ → ℤ → ℤ
 larger a b = cond (ltZ a b) b a
 

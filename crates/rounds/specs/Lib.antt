@@ -6,6 +6,17 @@ pub mod Recording
 pub mod Lowering
 pub mod LoweringLaws
 pub mod Rounds
+pub mod RoundsBound
 pub mod RoundsLaws
 pub mod Areas
 pub mod Cases
+pub mod SumLaws
+pub mod GreedyLaws
+pub mod LoadLaws
+pub mod TimingRuleLaws
+pub mod PairListLaws
+pub mod ScheduleLaws
+pub mod RecordLaws
+pub mod OneRoundLaws
+pub mod InvariantLaws
+pub mod AnswerLaws

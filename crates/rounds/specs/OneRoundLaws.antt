@@ -1,0 +1,252 @@
+-- One round keeps what holds of the search: every schedule below the limit keeps to the latest trains, and what is recorded is the front of the
+-- others. Assumes nothing.
+use mathlib.Core.Path.{_≡_, refl, sym, subst}
+use mathlib.Core.Logic.{_⊎_, inl, inr}
+use mathlib.Core.Bool.{Bool, true, false, cond}
+use mathlib.Core.List.{List}
+use Prim.Native.Nat.{ℕ, suc, _+_, _*_, _≤_, _<_}
+use native.Mathlib.Omega.{arith}
+use lib.Dec.{leb}
+use lib.IntN.{ℤ}
+use lib.ListN.{length}
+use lib.Signed.{ltZ, _≤ℤ_, _<ℤ_, ≤ℤ-refl, <ℤ-≤ℤ-trans, clashℤ}
+use Rattle.numbers.specs.Counting.{at, nth, count, sum}
+use Rattle.numbers.specs.Decides.{Decides, decides-le, decides-ltℤ, decided, numbered}
+use Rattle.numbers.specs.SignedLaws.{≤ℤ-trans, <ℤ-weaken, ≮ℤ-≤ℤ, ≤ℤ-<ℤ-trans}
+use Rattle.model.specs.Sheet.{Sheet, places}
+use Rattle.model.specs.Schedule.{Schedule, Departures}
+use Rattle.model.specs.Arrival.{arrival}
+use Rattle.model.specs.Lateness.{Pair, pairOf, lateness, worst}
+use Rattle.model.specs.LatenessLaws.{lateness-rises, worst-above, worst-one}
+use Rattle.model.specs.Admission.{Admitted}
+use Rattle.rounds.specs.LoadingLaws.{on}
+use Rattle.rounds.specs.Timing.{ready, Timed}
+use Rattle.rounds.specs.TimingLaws.{ready-above, ready-least, Covers}
+use Rattle.rounds.specs.Recording.{Plan, Recorded, listed, record-pair}
+use Rattle.rounds.specs.Lowering.{lower, crowded}
+use Rattle.rounds.specs.LoweringLaws.{GreatestEarly, latest-below-is, lower-at, Crowded, decides-crowded}
+use Rattle.rounds.specs.Rounds.{Search, going, ended, loading, times, settle, grade, depart, round}
+use Rattle.rounds.specs.RoundsBound.{rounds-bound}
+use Rattle.rounds.specs.SumLaws.{sum-lt, sum-near}
+use Rattle.rounds.specs.GreedyLaws.{Greedy, uncrowded, filled, released-in-any, every-loaded}
+use Rattle.rounds.specs.LoadLaws.{load-length, load-greedy}
+use Rattle.rounds.specs.TimingRuleLaws.{NoLater, Outcome, none-covers, least-run}
+use Rattle.rounds.specs.ScheduleLaws.{worst-same, rule, rides}
+use Rattle.rounds.specs.RecordLaws.{Plans, Recording, recording, listed-more}
+
+module _ (s : Sheet) where
+  -- every order of this loading rides no later than its latest train
+  abbrev pub Keeps : (latest train : List ℕ) → Type 0
+  Keeps latest train = (j : ℕ) → j < s .orders → at train j ≤ at latest j
+
+  -- the search goes on after k rounds
+  pub record Going (k c : ℕ) (latest : List ℕ) (y : ℤ) (found : Recorded) : Type 0 where
+    pub counted : c ≡ k
+    -- each round has lowered the sum of the latest trains
+    pub shrunk : c + sum (at latest) (s .orders) ≤ s .orders * s .trains
+    pub upto : (j : ℕ) → j < s .orders → at latest j ≤ s .trains
+    -- step 5 found no crowd
+    pub fits : (i : ℕ) → i ≤ s .trains → count (λ j. leb (at latest j) i) (s .orders) ≤ places (s .capacity) i
+    -- a schedule below the limit keeps to the latest trains
+    pub keeps : (train departure : List ℕ) → Schedule s train departure → pairOf s train departure .worst <ℤ y → Keeps latest train
+    pub recorded-is : Recording s y found
+    pub few-listed : length (listed found) ≤ c
+
+  -- the search has ended: no schedule is below the limit it ended at
+  pub record Ended (c : ℕ) (found : Recorded) : Type 0 where
+    pub limit : ℤ
+    pub bounded : c ≤ rounds-bound s
+    pub none-below : (train departure : List ℕ) → Schedule s train departure → ¬ (pairOf s train departure .worst <ℤ limit)
+    pub recorded-is : Recording s limit found
+    pub few-listed : length (listed found) ≤ c
+
+  pub data Invariant (k : ℕ) : Search → Type 0 where
+    still : {c : ℕ} {latest : List ℕ} {y : ℤ} {found : Recorded} → Going k c latest y found → Invariant k (going c latest y found)
+    over : {c : ℕ} {found : Recorded} → Ended c found → Invariant k (ended c found)
+
+module _ (s : Sheet) (a : Admitted s) (k c : ℕ) (latest : List ℕ) (y : ℤ) (found : Recorded) (g : Going s k c latest y found) where
+  abbrev n : ℕ
+  n = s .orders
+
+  abbrev q : ℕ
+  q = s .trains
+
+  -- ---- steps 1 and 2
+
+  abbrev train : List ℕ
+  train = loading s latest
+
+  abbrev released : ℕ → ℕ
+  released = ready (s .release) train n
+
+  greedy : Greedy n (s .capacity) (s .release) latest train
+  greedy = load-greedy n q (s .release) (s .capacity) latest (g .upto)
+
+  all-loaded : (j : ℕ) → j < n → 1 ≤ at train j
+  all-loaded = every-loaded n q (s .capacity) (s .release) latest train greedy (g .upto) (g .fits)
+
+  within : (j : ℕ) → j < n → at train j ≤ q
+  within j l = omega (arith, greedy .keeps j l, g .upto j l)
+
+  -- any schedule that keeps to the latest trains departs after the releases of this loading
+  pub covered : (other departure : List ℕ) → Schedule s other departure → Keeps s latest other → Covers q released (nth departure)
+  covered other departure h keeps i p l =
+      ready-least (s .release) train i (nth departure i) n
+      (λ j lj e. subst (λ (m : ℕ). s .release j ≤ nth departure m) e
+      (released-in-any n q (s .capacity) (s .release) latest train greedy (g .upto) other (nth departure) (rides s a other departure h) keeps j lj (all-loaded j lj)))
+
+  -- this round is within the bound
+  pub bounded-now : suc c ≤ rounds-bound s
+  bounded-now = omega (arith, g .shrunk, sum-near s (a .complete .trains) (at latest) (g .upto) (g .fits))
+
+  -- "If there is none, stop."
+  stops : ((S : ℕ → ℕ) → Departures (s .form) q S → ¬ Covers q released S) → Ended s (suc c) found
+  stops f =
+      record {
+        limit = y;
+        bounded = bounded-now;
+        none-below = λ other departure h l. f (nth departure) (h .departures) (covered other departure h (g .keeps other departure h l));
+        recorded-is = g .recorded-is;
+        few-listed = omega (arith, g .few-listed);
+      }
+
+  -- ---- steps 3 to 5, with the times found
+
+  module _ (S F : List ℕ) (size-S : length S ≡ q) (size-F : length F ≡ q) (arrives : (i : ℕ) → 1 ≤ i → i ≤ q → nth F i ≡ arrival (s .form) (nth S) i)
+      (ok : Departures (s .form) q (nth S)) (cov : Covers q released (nth S))
+      (least : (S′ : ℕ → ℕ) → Departures (s .form) q S′ → Covers q released S′ → NoLater q (arrival (s .form)) (nth S) S′) where
+    abbrev z : ℤ
+    z = worst s train (nth F)
+
+    abbrev pair : Pair
+    pair = record { last = nth F q; worst = z }
+
+    abbrev plan : Plan
+    plan = record { train = train; departure = S; arrival = F }
+
+    -- this round's plan is a schedule, and its pair is what step 3 records
+    schedule : Schedule s train S
+    schedule =
+        record {
+          placed = load-length n q (s .release) (s .capacity) latest;
+          on-a-train = λ j l. (all-loaded j l, within j l);
+          departs = size-S;
+          full = numbered (λ i. count (on train i) n ≡ s .capacity i) q (filled n (s .capacity) train (greedy .room) all-loaded q within (a .balanced));
+          released = λ j l. omega (arith, ready-above (s .release) train (at train j) n j l refl, cov (at train j) (all-loaded j l) (within j l));
+          departures = ok;
+        }
+
+    pair-is : pairOf s train S ≡ pair
+    pair-is =
+        let last-is : arrival (s .form) (nth S) q ≡ nth F q = sym (arrives q (a .complete .trains) (omega arith)) in
+        let worst-is : worst s train (arrival (s .form) (nth S)) ≡ z =
+        worst-same s (a .complete .orders) train (arrival (s .form) (nth S)) (nth F) (λ j l. sym (arrives (at train j) (all-loaded j l) (within j l))) in
+        λ i. record { last = last-is i; worst = worst-is i }
+
+    plans : Plans s pair plan
+    plans = record { schedule = schedule; arrives = size-F; arrivals = arrives; pair = pair-is }
+
+    -- no schedule below the limit arrives earlier, by any train
+    sooner : (other departure : List ℕ) → Schedule s other departure → pairOf s other departure .worst <ℤ y
+        → (i : ℕ) → 1 ≤ i → i ≤ q → nth F i ≤ arrival (s .form) (nth departure) i
+    sooner other departure h l i p m =
+        omega (arith, arrives i p m, least (nth departure) (h .departures) (covered other departure h (g .keeps other departure h l)) i p m)
+
+    -- steps 4 and 5, at the limit v
+    module _ (v : ℤ) (v-y : v ≤ℤ y) (v-z : v ≤ℤ z) (found′ : Recorded) (recorded′ : Recording s v found′) (few′ : length (listed found′) ≤ suc c) where
+      abbrev lowered : List ℕ
+      lowered = lower n (s .weight) (s .due) (nth F) v latest
+
+      lowered-is : (j : ℕ) → j < n → GreatestEarly (s .weight j) (s .due j) (nth F) v (at latest j) (at lowered j)
+      lowered-is j l =
+          subst (λ (i : ℕ). GreatestEarly (s .weight j) (s .due j) (nth F) v (at latest j) i) (sym (lower-at n (s .weight) (s .due) (nth F) v latest j l))
+          (latest-below-is (s .weight j) (s .due j) (nth F) v (at latest j))
+
+      -- a schedule below v still keeps to the lowered latest trains
+      keeps′ : (other departure : List ℕ) → Schedule s other departure → pairOf s other departure .worst <ℤ v → Keeps s lowered other
+      keeps′ other departure h l j lj =
+          let y-l : pairOf s other departure .worst <ℤ y = <ℤ-≤ℤ-trans l v-y in
+          let (p, m) = h .on-a-train j lj in
+          lowered-is j lj .greatest (at other j) p (g .keeps other departure h y-l j lj)
+          (≤ℤ-<ℤ-trans
+          (≤ℤ-trans
+          (lateness-rises (s .weight j) (s .due j) (nth F (at other j)) (arrival (s .form) (nth departure) (at other j)) (sooner other departure h y-l (at other j) p m))
+          (worst-above s other (arrival (s .form) (nth departure)) j lj))
+          l)
+
+      -- the worst order's latest train falls below the train that it rides
+      worst-lowered : (j : ℕ) → j < n → lateness (s .weight j) (nth F (at train j)) (s .due j) ≡ z → at lowered j < at train j
+      worst-lowered j l e = go (decided (decides-le (at train j) (at lowered j)))
+        where
+          go : (at train j ≤ at lowered j) ⊎ (¬ (at train j ≤ at lowered j)) → at lowered j < at train j
+          go (inl u) =
+              let p : 1 ≤ at lowered j = omega (arith, all-loaded j l) in
+              let m : at lowered j ≤ q = omega (arith, lowered-is j l .not-above, g .upto j l) in
+              let r : nth F (at train j) ≤ nth F (at lowered j) =
+              omega (
+                arith,
+                arrives (at train j) (all-loaded j l) (within j l),
+                arrives (at lowered j) p m,
+                rule s a .arrivals-rise (nth S) ok (at train j) (at lowered j) (all-loaded j l) u m,
+              ) in
+              clashℤ (<ℤ-≤ℤ-trans (lowered-is j l .early p) v-z)
+              (subst (λ (x : ℤ). x ≤ℤ lateness (s .weight j) (nth F (at lowered j)) (s .due j)) e (lateness-rises (s .weight j) (s .due j) (nth F (at train j)) (nth F (at lowered j)) r))
+          go (inr u) = omega arith
+
+      -- so a round that goes on lowers the sum of latest trains
+      shrinks : sum (at lowered) n < sum (at latest) n
+      shrinks =
+          let (j, l, e) = worst-one s train (nth F) (a .complete .orders) in
+          sum-lt (at lowered) (at latest) n j l (omega (arith, worst-lowered j l e, greedy .keeps j l)) (λ i li. lowered-is i li .not-above)
+
+      settles : Invariant s (suc k) (settle s (suc c) latest v found′ (nth F))
+      unfolding settle
+      settles = go (crowded n (s .capacity) lowered q) (decides-crowded n (s .capacity) lowered q)
+        where
+          go : (b : Bool) → Decides (Crowded n (s .capacity) lowered q) b → Invariant s (suc k) (cond b (ended (suc c) found′) (going (suc c) lowered v found′))
+          go true d =
+              over
+              record {
+                limit = v;
+                bounded = bounded-now;
+                none-below = λ other departure h l. omega (
+                  arith,
+                  d .sound tt .more,
+                  uncrowded n (s .capacity) other (rides s a other departure h .room) (λ j lj. h .on-a-train j lj .0) lowered (keeps′ other departure h l) (d .sound tt .train),
+                );
+                recorded-is = recorded′;
+                few-listed = few′;
+              }
+          go false d =
+              still {c = suc c} {latest = lowered} {y = v} {found = found′}
+              record {
+                counted = omega (arith, g .counted);
+                shrunk = omega (arith, g .shrunk, shrinks);
+                upto = λ j l. omega (arith, lowered-is j l .not-above, g .upto j l);
+                fits = λ i l. let h : ¬ (places (s .capacity) i < count (λ j. leb (at lowered j) i) n) = λ m. d .complete (record { train = i; among = l; more = m }) in omega arith;
+                keeps = keeps′;
+                recorded-is = recorded′;
+                few-listed = few′;
+              }
+
+    graded : Invariant s (suc k) (grade s (suc c) latest y found plan)
+    unfolding grade
+    graded = go (ltZ z y) (decides-ltℤ z y)
+      where
+        go : (b : Bool) → Decides (z <ℤ y) b
+            → Invariant s (suc k) (cond b (settle s (suc c) latest z (record-pair found pair plan) (nth F)) (settle s (suc c) latest y found (nth F)))
+        go true d =
+            let better : z <ℤ y = d .sound tt in
+            settles z (<ℤ-weaken better) (≤ℤ-refl z) (record-pair found pair plan)
+            (recording s a y pair plan plans better (λ other departure h l. sooner other departure h l q (a .complete .trains) (omega arith)) found (g .recorded-is))
+            (omega (arith, g .few-listed, listed-more found pair plan))
+        go false d = settles y (≤ℤ-refl y) (≮ℤ-≤ℤ (λ l. d .complete l)) found (g .recorded-is) (omega (arith, g .few-listed))
+
+  -- A ROUND KEEPS THE INVARIANT
+  pub round-keeps : Invariant s (suc k) (round s (going c latest y found))
+  unfolding round depart
+  round-keeps = go (times s train) (rule s a .outcome released)
+    where
+      go : (t : Timed) → Outcome q (Departures (s .form) q) (arrival (s .form)) released t → Invariant s (suc k) (depart s (suc c) latest y found train t)
+      go t (none-covers f) = over (stops f)
+      go t (least-run {S = S} {F = F} size-S size-F arrives ok cov least) = graded S F size-S size-F arrives ok cov least
