@@ -1,0 +1,108 @@
+-- Laws by which code is shown to compute the loading, a branch or a turn at a time: what the code has stands on the left. Assumes nothing.
+use Prim.Native.Nat.{ℕ, zero, suc, _+_, _-_, _≤_, _<_}
+use mathlib.Core.Path.{_≡_, refl}
+use mathlib.Core.Bool.{Bool, true, false}
+use mathlib.Core.List.{List, _++_, append-nil}
+use native.Mathlib.Omega.{arith}
+use native.Mathlib.Numerals.{add-one}
+use lib.Dec.{leb}
+use lib.ListN.{length, set, replicate, drop}
+use lib.Seq.{drop-length}
+use borrow.Author.Tests.{le-leb, lt-leb, ne-eqb}
+use Rattle.numbers.specs.Counting.{at}
+use Rattle.rounds.specs.Loading.{free, greater, pick, put, take-orders, load-down, load}
+use Rattle.planner.specs.Bounds.{AtMost}
+use Rattle.planner.specs.BoundsLaws.{at-most-set}
+
+pub free-unloaded : (latest train : List ℕ) (i j : ℕ) → at train j ≡ 0 → leb i (at latest j) ≡ free latest train i j
+free-unloaded latest train i j e = rw e
+
+pub free-loaded : (latest train : List ℕ) (i j : ℕ) → (at train j ≡ 0 → ⊥) → false ≡ free latest train i j
+free-loaded latest train i j h = rw (ne-eqb (at train j) 0 h)
+
+-- ---- the greater of two
+
+module _ (release : ℕ → ℕ) (j best : ℕ) (may : Bool) where
+  pub greater-first : may ≡ true → best ≡ 0 → j + 1 ≡ greater release j best may
+  unfolding greater
+  greater-first t e = rw (t, e, add-one)
+
+  pub greater-not : may ≡ false → best ≡ greater release j best may
+  unfolding greater
+  greater-not t = rw t
+
+module _ (release : ℕ → ℕ) (j : ℕ) where
+  pub greater-over : (best : ℕ) (may : Bool) → may ≡ true → (best ≡ 0 → ⊥) → release (best - 1) ≤ release j → j + 1 ≡ greater release j best may
+  unfolding greater
+  greater-over zero may t e h = absurd (e refl)
+  greater-over (suc b) may t e h = let u : suc b - 1 ≡ b = omega arith in rw (t, le-leb (release b) (release j) (rw u at h), add-one)
+
+  pub greater-stays : (best : ℕ) (may : Bool) → may ≡ true → (best ≡ 0 → ⊥) → release j < release (best - 1) → best ≡ greater release j best may
+  unfolding greater
+  greater-stays zero may t e h = absurd (e refl)
+  greater-stays (suc b) may t e h = let u : suc b - 1 ≡ b = omega arith in rw (t, lt-leb (release b) (release j) (rw u at h))
+
+-- ---- picking
+
+module _ (release : ℕ → ℕ) (latest train : List ℕ) (i : ℕ) where
+  pub pick-none : 0 ≡ pick release latest train i 0
+  unfolding pick
+  pick-none = refl
+
+  pub pick-more : (m : ℕ) → greater release m (pick release latest train i m) (free latest train i m) ≡ pick release latest train i (m + 1)
+  unfolding pick
+  pick-more m = rw add-one
+
+-- ---- filling one train
+
+pub put-picked : (train : List ℕ) (i b : ℕ) → (b ≡ 0 → ⊥) → set train (b - 1) i ≡ put train i b
+unfolding put
+put-picked train i zero h = absurd (h refl)
+put-picked train i (suc b) h = let e : suc b - 1 ≡ b = omega arith in rw e
+
+put-at-most : (q i : ℕ) → i ≤ q → (train : List ℕ) (b : ℕ) → AtMost q train → AtMost q (put train i b)
+unfolding put
+put-at-most q i l train zero h = h
+put-at-most q i l train (suc b) h = at-most-set q train b i h l
+
+module _ (n : ℕ) (release : ℕ → ℕ) (latest : List ℕ) (i : ℕ) where
+  -- one turn, where m of k are done
+  pub take-turn : (k m : ℕ) (train : List ℕ) → m < k
+      → take-orders n release latest i (k - m) train ≡ take-orders n release latest i (k - (m + 1)) (put train i (pick release latest train i n))
+  unfolding take-orders
+  take-turn k m train l = let e : k - m ≡ suc (k - (m + 1)) = omega arith in rw e
+
+  pub take-done : (k m : ℕ) (train : List ℕ) → k ≤ m → take-orders n release latest i (k - m) train ≡ train
+  unfolding take-orders
+  take-done k m train l = let e : k - m ≡ 0 = omega arith in rw e
+
+  -- where no order is free, no further turn changes anything
+  pub take-none : (k : ℕ) (train : List ℕ) → pick release latest train i n ≡ 0 → take-orders n release latest i k train ≡ train
+  unfolding take-orders put
+  take-none zero train e = refl
+  take-none (suc k) train e = rw e (take-none k train e)
+
+  pub take-at-most : (q k : ℕ) (train : List ℕ) → i ≤ q → AtMost q train → AtMost q (take-orders n release latest i k train)
+  unfolding take-orders
+  take-at-most q zero train l h = h
+  take-at-most q (suc k) train l h = take-at-most q k (put train i (pick release latest train i n)) l (put-at-most q i l train (pick release latest train i n) h)
+
+-- ---- all trains
+
+pub unloaded : (train : List ℕ) (n : ℕ) → n ≡ length train → replicate n 0 ++ drop n train ≡ replicate (length train) 0
+unloaded train n e = rw (e, drop-length train, append-nil)
+
+module _ (n : ℕ) (release capacity : ℕ → ℕ) (latest : List ℕ) where
+  pub load-start : (q : ℕ) → load-down n release capacity latest q (replicate n 0) ≡ load n q release capacity latest
+  unfolding load
+  load-start q = refl
+
+  pub load-turn : (i : ℕ) (train : List ℕ) → 0 < i
+      → load-down n release capacity latest (i - 1) (take-orders n release latest i (capacity i) train) ≡ load-down n release capacity latest i train
+  unfolding load-down
+  load-turn zero train l = absurd (omega arith)
+  load-turn (suc i) train l = let e : suc i - 1 ≡ i = omega arith in rw e
+
+  pub load-done : (i : ℕ) (train : List ℕ) → i ≡ 0 → train ≡ load-down n release capacity latest i train
+  unfolding load-down
+  load-done i train e = rw e
