@@ -1,0 +1,71 @@
+-- `run` meets its contract: what was passed and the run that is left make the whole run. Assumes nothing.
+use mathlib.Core.Path.{_≡_, sym, _∙_}
+use Prim.Native.Nat.{_+_, _-_, _≤_}
+use native.Mathlib.Omega.{arith}
+use lib.ListN.{length, drop}
+use Rattle.sheet.specs.Fields.{runOf}
+use Rattle.sheet.specs.FieldLaws.{run-next, run-stop, run-past}
+use borrow.Author.Needs.{needs}
+use Rattle.sheet.proofs.fields.run.Statement.{statement}
+use Rattle.sheet.proofs.fields.run.Tie as tie
+
+abbrev Inv-loop : tie.InvT-loop
+Inv-loop text from alphabet p₀ p = (from ≤ p) × (runOf alphabet (drop from text) ≡ p - from + runOf alphabet (drop p text))
+
+abbrev μ-loop : tie.MeasureT-loop
+μ-loop text from alphabet p₀ p = length text - p
+
+loop-holds : tie.Need-loop-holds Inv-loop μ-loop
+loop-holds c = search needs
+
+shared-slice-read-allowed : tie.Need-shared-slice-read-allowed Inv-loop μ-loop
+shared-slice-read-allowed c = search needs
+
+allowed-requires : tie.Need-allowed-requires Inv-loop μ-loop
+allowed-requires c κs = search needs
+
+add-p : tie.Need-add-p Inv-loop μ-loop
+add-p c = search needs
+
+loop-less : tie.Need-loop-less Inv-loop μ-loop
+loop-less c = search needs
+
+loop-again : tie.Need-loop-again Inv-loop μ-loop
+loop-again c =
+    let l = c .before .before .before .before in
+    let a = l .before .before .args in
+    (omega arith, omega (arith, run-next (a .alphabet) (a .text .now) (l .loop .p) (c .before .before .before .loop-test .taken) (sym (c .before .allowed .ensures) ∙ c .if1 .taken)))
+
+sub-result : tie.Need-sub-result Inv-loop μ-loop
+sub-result c = search needs
+
+returns : tie.Need-returns Inv-loop μ-loop
+returns c =
+    let l = c .before .before .before .before in
+    let a = l .before .before .args in
+    omega (arith, run-stop (a .alphabet) (a .text .now) (l .loop .p) (c .before .before .before .loop-test .taken) (sym (c .before .allowed .ensures) ∙ c .if1 .left))
+
+sub-result-2 : tie.Need-sub-result-2 Inv-loop μ-loop
+sub-result-2 c = search needs
+
+returns-2 : tie.Need-returns-2 Inv-loop μ-loop
+returns-2 c =
+    let a = c .before .before .before .args in
+    omega (arith, run-past (a .alphabet) (a .text .now) (c .before .loop .p) (c .loop-test .left))
+
+pub run-spec : {M : Type 1} → statement M
+run-spec =
+    tie.close
+    (tie.spec
+    Inv-loop
+    μ-loop
+    loop-holds
+    shared-slice-read-allowed
+    allowed-requires
+    add-p
+    loop-less
+    loop-again
+    sub-result
+    returns
+    sub-result-2
+    returns-2)

@@ -1,0 +1,42 @@
+-- `fixed_train_in_range` meets its contract: each return has the tests that led to it. Assumes nothing.
+use mathlib.Core.Path.{sym, _∙_}
+use Rattle.sheet.specs.Tests.{fixedTrainInRange}
+use borrow.Author.Needs.{needs}
+use Rattle.sheet.proofs.line_tests.fixed_train_in_range.Statement.{statement}
+use Rattle.sheet.proofs.line_tests.fixed_train_in_range.Tie as tie
+
+in-range-requires : tie.Need-in-range-requires
+in-range-requires c κs = search needs
+
+in-range-requires-2 : tie.Need-in-range-requires-2
+in-range-requires-2 c κs = search needs
+
+in-range-requires-3 : tie.Need-in-range-requires-3
+in-range-requires-3 c κs = search needs
+
+returns : tie.Need-returns
+unfolding fixedTrainInRange
+returns c =
+    let d = c .before .before .before in
+    simp (sym (d .before .in-range .ensures) ∙ d .if1 .taken, sym (c .before .before .in-range2 .ensures) ∙ c .before .if2 .taken) (c .in-range3 .ensures)
+
+returns-2 : tie.Need-returns-2
+unfolding fixedTrainInRange
+returns-2 c =
+    let d = c .before .before in
+    simp (sym (d .before .in-range .ensures) ∙ d .if1 .taken, sym (c .before .in-range2 .ensures) ∙ c .if2 .left)
+
+returns-3 : tie.Need-returns-3
+unfolding fixedTrainInRange
+returns-3 c = simp (sym (c .before .in-range .ensures) ∙ c .if1 .left)
+
+pub fixed-train-in-range-spec : {M : Type 1} → statement M
+fixed-train-in-range-spec =
+    tie.close
+    (tie.spec
+    in-range-requires
+    in-range-requires-2
+    in-range-requires-3
+    returns
+    returns-2
+    returns-3)

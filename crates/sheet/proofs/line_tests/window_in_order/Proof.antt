@@ -1,0 +1,31 @@
+-- `window_in_order` meets its contract: each return has the tests that led to it. Assumes nothing.
+use borrow.Author.Tests.{le-leb, lt-leb, eq-eqb, ne-eqb}
+use Rattle.sheet.specs.Tests.{windowInOrder}
+use borrow.Author.Needs.{needs}
+use Rattle.sheet.proofs.line_tests.window_in_order.Statement.{statement}
+use Rattle.sheet.proofs.line_tests.window_in_order.Tie as tie
+
+returns : tie.Need-returns
+unfolding windowInOrder
+returns c = simp (lt-leb _ _ (c .if1 .taken))
+
+returns-2 : tie.Need-returns-2
+unfolding windowInOrder
+returns-2 c = simp (le-leb _ _ (c .before .if1 .left), eq-eqb _ _ (c .if2 .taken))
+
+sub-last : tie.Need-sub-last
+sub-last c = search needs
+
+mul-result : tie.Need-mul-result
+mul-result c = search needs
+
+array-read-result : tie.Need-array-read-result
+array-read-result c = search needs
+
+returns-3 : tie.Need-returns-3
+unfolding windowInOrder
+returns-3 c = simp (le-leb _ _ (c .before .before .if1 .left), ne-eqb _ _ (c .before .if2 .left))
+
+pub window-in-order-spec : {M : Type 1} → statement M
+window-in-order-spec =
+    tie.close (tie.spec returns returns-2 sub-last mul-result array-read-result returns-3)

@@ -1,0 +1,135 @@
+-- A line that is read ends after it starts, and an order's name lies in the text. Assumes nothing.
+use mathlib.Core.Path.{_≡_, refl, subst}
+use mathlib.Core.Bool.{Bool, true, false, cond}
+use mathlib.Core.List.{List}
+use Prim.Native.Nat.{ℕ, _+_, _≤_, _<_}
+use native.Mathlib.Omega.{arith}
+use lib.ListN.{length, drop}
+use lib.Dec.{eqb}
+use Rattle.numbers.specs.Counting.{at}
+use Rattle.model.specs.Limits.{Inside, inside, _–_}
+use Rattle.sheet.specs.Fields.{comma, lineEnds, runOf}
+use Rattle.sheet.specs.Numbers.{isNumber, numberAt, numberField}
+use Rattle.sheet.specs.Names.{nameField}
+use Rattle.sheet.specs.Lines.{number, name, ended, gapLine, windowLine, trainLine, fixedTrainLine, orderLine, lineAt, G, W, T, X, O}
+use Rattle.sheet.specs.FieldLaws.{run-inside, inside-means}
+use Rattle.sheet.specs.declared.Alphabet.the-variants.{Digits, NameBytes}
+use Rattle.sheet.specs.declared.Field.{Field}
+use Rattle.sheet.specs.declared.Field.the-variants as F
+use Rattle.sheet.specs.declared.NameField.{NameField}
+use Rattle.sheet.specs.declared.NameField.the-variants as N
+use Rattle.sheet.specs.declared.Line.{Line}
+use Rattle.sheet.specs.declared.Line.the-variants.{Gap, Window, Train, FixedTrain, Order}
+use Rattle.sheet.specs.declared.LineAt.{LineAt}
+use Rattle.sheet.specs.declared.LineAt.the-variants.{Read, Refused}
+
+-- what holds of both choices holds of the chosen one
+pub by-test : {A : Type 0} (P : A → Type 0) (b : Bool) {x y : A} → (b ≡ true → P x) → (b ≡ false → P y) → P (cond b x y)
+by-test P true f g = f refl
+by-test P false f g = g refl
+
+-- ---- fields
+
+abbrev Past : ℕ → Field → Type 0
+Past p (F.Number value next) = p < next
+Past p F.Other = Unit {0}
+
+number-past : (text : List ℕ) (p : ℕ) → Past p (numberField text p)
+unfolding numberField numberAt
+number-past text p =
+    by-test (Past p) (comma text p)
+    (λ e. by-test (Past p) (isNumber text (p + 1) (runOf Digits (drop (p + 1) text))) (λ f. omega arith) (λ f. tt))
+    (λ e. tt)
+
+-- where a name stands: inside the text, and 1 to 12 bytes long
+pub record NameAt (text : List ℕ) (start long : ℕ) : Type 0 where
+  pub lies : start + long ≤ length text
+  pub size : Inside (1 – 12) long
+
+abbrev NameInside : List ℕ → ℕ → NameField → Type 0
+NameInside text p (N.Name start long) = (p < start) × NameAt text start long
+NameInside text p N.Other = Unit {0}
+
+name-inside : (text : List ℕ) (p : ℕ) → NameInside text p (nameField text p)
+unfolding nameField
+name-inside text p =
+    let n = runOf NameBytes (drop (p + 1) text) in
+    by-test (NameInside text p) (comma text p)
+    (λ e. by-test (NameInside text p) (inside (1 – 12) n)
+    (λ f. let size = inside-means (1 – 12) n f in (omega arith, record { lies = run-inside NameBytes text (p + 1) (omega (arith, size .0)); size = size })) (λ f. tt))
+    (λ e. tt)
+
+-- a name that was read lies in the text
+pub name-found : (text : List ℕ) (p start long : ℕ) → nameField text p ≡ N.Name start long → start + long ≤ length text
+name-found text p start long e = subst (NameInside text p) e (name-inside text p) .1 .lies
+
+-- ---- lines
+
+abbrev pub Named : List ℕ → Line → Type 0
+Named text (Gap g) = Unit {0}
+Named text (Window w) = Unit {0}
+Named text (Train t) = Unit {0}
+Named text (FixedTrain t) = Unit {0}
+Named text (Order o) = NameAt text (o .«name_start») (o .«name_length»)
+
+abbrev pub Sound : List ℕ → ℕ → LineAt → Type 0
+Sound text p (Read l next) = (p < next) × Named text l
+Sound text p (Refused r) = Unit {0}
+
+module _ (text : List ℕ) (p line : ℕ) where
+  -- a number field that stands at or after p
+  after-number : (q : ℕ) → p ≤ q → (rest : ℕ → ℕ → LineAt) → ((value next : ℕ) → p ≤ next → Sound text p (rest value next))
+      → Sound text p (number (numberField text q) line rest)
+  after-number q l rest f = go (numberField text q) (number-past text q)
+    where
+      go : (x : Field) → Past q x → Sound text p (number x line rest)
+      go (F.Number value next) h = f value next (omega arith)
+      go F.Other h = tt
+
+  after-name : (q : ℕ) → p ≤ q → (rest : ℕ → ℕ → LineAt) → ((start long : ℕ) → p ≤ start + long → NameAt text start long → Sound text p (rest start long))
+      → Sound text p (name (nameField text q) line rest)
+  after-name q l rest f = go (nameField text q) (name-inside text q)
+    where
+      go : (x : NameField) → NameInside text q x → Sound text p (name x line rest)
+      go (N.Name start long) h = f start long (omega arith) (h .1)
+      go N.Other h = tt
+
+  at-end : (q : ℕ) → p ≤ q → (l : Line) → Named text l → Sound text p (ended text q line l)
+  unfolding ended
+  at-end q k l h = by-test (Sound text p) (lineEnds text q) (λ e. (omega arith, h)) (λ e. tt)
+
+  module _ (q : ℕ) (l : p ≤ q) where
+    gap-sound : Sound text p (gapLine text q line)
+    unfolding gapLine
+    gap-sound = after-number q l _ (λ gap next k. at-end next k _ tt)
+
+    window-sound : Sound text p (windowLine text q line)
+    unfolding windowLine
+    window-sound = after-number q l _ (λ from second m. after-number second m _ (λ to next k. at-end next k _ tt))
+
+    train-sound : Sound text p (trainLine text q line)
+    unfolding trainLine
+    train-sound = after-number q l _ (λ capacity second m. after-number second m _ (λ running next k. at-end next k _ tt))
+
+    fixed-train-sound : Sound text p (fixedTrainLine text q line)
+    unfolding fixedTrainLine
+    fixed-train-sound =
+        after-number q l _ (λ capacity second m.
+        after-number second m _ (λ departure third o. after-number third o _ (λ arrival next k. at-end next k _ tt)))
+
+    order-sound : Sound text p (orderLine text q line)
+    unfolding orderLine
+    order-sound =
+        after-name q l _ (λ start long m named.
+        after-number (start + long) m _ (λ release third o.
+        after-number third o _ (λ due fourth r. after-number fourth r _ (λ weight next k. at-end next k _ named))))
+
+-- A LINE THAT IS READ ENDS AFTER IT STARTS, AND AN ORDER'S NAME LIES IN THE TEXT
+pub line-sound : (text : List ℕ) (p line : ℕ) → Sound text p (lineAt text p line)
+unfolding lineAt
+line-sound text p line =
+    by-test (Sound text p) (eqb (at text p) G) (λ e. gap-sound text p line (p + 1) (omega arith)) (λ e.
+    by-test (Sound text p) (eqb (at text p) W) (λ e. window-sound text p line (p + 1) (omega arith)) (λ e.
+    by-test (Sound text p) (eqb (at text p) T) (λ e. train-sound text p line (p + 1) (omega arith)) (λ e.
+    by-test (Sound text p) (eqb (at text p) X) (λ e. fixed-train-sound text p line (p + 1) (omega arith)) (λ e.
+    by-test (Sound text p) (eqb (at text p) O) (λ e. order-sound text p line (p + 1) (omega arith)) (λ e. tt)))))

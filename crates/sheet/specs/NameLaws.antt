@@ -1,0 +1,26 @@
+-- A NAME THAT IS GIVEN BACK LIES IN THE TEXT AND HAS AT MOST 12 BYTES. Assumes nothing.
+use mathlib.Core.List.{List}
+use Prim.Native.Nat.{ℕ, _+_, _-_, _≤_}
+use native.Mathlib.Omega.{arith}
+use lib.ListN.{length}
+use Rattle.model.specs.Limits.{inside, _–_}
+use Rattle.sheet.specs.FieldLaws.{inside-means}
+use Rattle.sheet.specs.LineLaws.{by-test}
+use Rattle.sheet.specs.Reading.{readFrom}
+use Rattle.sheet.specs.OrderNames.{Span, nameOf, nameIn}
+use Rattle.sheet.specs.TextLaws.{text-good}
+use Rattle.sheet.specs.declared.Form.{Form}
+
+abbrev pub Short : List ℕ → Span → Type 0
+Short text s = (s .start + s .long ≤ length text) × (s .long ≤ 12)
+
+pub name-lies : (form : Form) (text : List ℕ) (j : ℕ) → Short text (nameIn form text j)
+unfolding nameIn nameOf
+name-lies form text j =
+    let orders = readFrom form text 0 .lines .orders in
+    by-test (Short text) (inside (1 – (orders .count)) j)
+    (λ e.
+    let there = inside-means (1 – (orders .count)) j e in
+    let name = text-good form text 0 .lines .1 (j - 1) (omega (arith, there .0, there .1)) in
+    (name .lies, name .size .1))
+    (λ e. (omega arith, omega arith))

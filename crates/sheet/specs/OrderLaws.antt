@@ -1,0 +1,88 @@
+-- O lines without a fault keep the orders in their ranges and the names in the text. Assumes nothing.
+use mathlib.Core.Path.{_≡_, refl}
+use mathlib.Core.Bool.{true, _&&_}
+use mathlib.Core.List.{List}
+use Prim.Native.Nat.{ℕ, _+_, _≤_, _<_}
+use native.Mathlib.Omega.{arith}
+use lib.Dec.{leb, ltb}
+use lib.ListN.{length, length-set}
+use borrow.Author.Tests.{ltb-true}
+use Rattle.model.specs.Limits.{Inside, inside, release-range, due-range, weight-range}
+use Rattle.sheet.specs.FieldLaws.{and-true, inside-means}
+use Rattle.sheet.specs.LineLaws.{NameAt}
+use Rattle.sheet.specs.FaultLaws.{NoFault, no-fault}
+use Rattle.sheet.specs.ColumnLaws.{Rows, rows-more}
+use Rattle.sheet.specs.OrderLines.{noOrders, orderInRange, orderFault, withOrder}
+use Rattle.sheet.specs.declared.Answer.the-variants.{Read}
+use Rattle.sheet.specs.declared.Order.{Order}
+use Rattle.sheet.specs.declared.Orders.{Orders}
+
+abbrev pub Times : ℕ → ℕ → Type 0
+Times release due = Inside release-range release × Inside due-range due
+
+abbrev pub Weight : ℕ → ℕ → Type 0
+Weight weight same = Inside weight-range weight
+
+pub record GoodOrders (o : Orders) : Type 0 where
+  pub few : o .count ≤ 200
+  pub release-long : length (o .release) ≡ 200
+  pub due-long : length (o .due) ≡ 200
+  pub weight-long : length (o .weight) ≡ 200
+  pub start-long : length (o .«name_start») ≡ 200
+  pub length-long : length (o .«name_length») ≡ 200
+  pub times : Rows Times (o .release) (o .due) (o .count)
+  pub weights : Rows Weight (o .weight) (o .weight) (o .count)
+
+-- every name lies in the text
+abbrev pub NamesIn : List ℕ → Orders → Type 0
+NamesIn text o = Rows (NameAt text) (o .«name_start») (o .«name_length») (o .count)
+
+pub no-orders-good : GoodOrders noOrders
+unfolding noOrders
+no-orders-good =
+    record {
+      few = omega arith;
+      release-long = refl;
+      due-long = refl;
+      weight-long = refl;
+      start-long = refl;
+      length-long = refl;
+      times = λ j l. absurd (omega arith);
+      weights = λ j l. absurd (omega arith);
+    }
+
+module _ (line above : ℕ) (o : Orders) (x : Order) (e : orderFault line above (o .count) x ≡ Read) where
+  order-tests : NoFault (leb above 4) (ltb (o .count) 200) (orderInRange x) true
+  unfolding orderFault
+  order-tests = no-fault line (leb above 4) (ltb (o .count) 200) (orderInRange x) true e
+
+  pub order-room : o .count < 200
+  order-room = ltb-true (o .count) 200 (order-tests .few)
+
+  pub order-more : GoodOrders o → GoodOrders (withOrder o x)
+  unfolding withOrder orderInRange
+  order-more g =
+      let room : o .count < 200 = order-room in
+      let (both, weight) = and-true (inside release-range (x .release) && inside due-range (x .due)) (inside weight-range (x .weight)) (order-tests .ranged) in
+      let (release, due) = and-true (inside release-range (x .release)) (inside due-range (x .due)) both in
+      record {
+        few = omega arith;
+        release-long = simp length-set (g .release-long);
+        due-long = simp length-set (g .due-long);
+        weight-long = simp length-set (g .weight-long);
+        start-long = simp length-set (g .start-long);
+        length-long = simp length-set (g .length-long);
+        times =
+            rows-more Times (o .release) (o .due) (o .count) (x .release) (x .due) (omega (arith, g .release-long)) (omega (arith, g .due-long)) (g .times)
+            (inside-means release-range (x .release) release, inside-means due-range (x .due) due);
+        weights =
+            rows-more Weight (o .weight) (o .weight) (o .count) (x .weight) (x .weight) (omega (arith, g .weight-long)) (omega (arith, g .weight-long)) (g .weights)
+            (inside-means weight-range (x .weight) weight);
+      }
+
+  pub names-more : (text : List ℕ) → GoodOrders o → NameAt text (x .«name_start») (x .«name_length») → NamesIn text o → NamesIn text (withOrder o x)
+  unfolding withOrder
+  names-more text g named h =
+      let room : o .count < 200 = order-room in
+      rows-more (NameAt text) (o .«name_start») (o .«name_length») (o .count) (x .«name_start») (x .«name_length»)
+      (omega (arith, g .start-long)) (omega (arith, g .length-long)) h named

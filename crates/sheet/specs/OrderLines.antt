@@ -1,0 +1,40 @@
+-- DOCUMENT 01, "THE SHEET": O lines, of both forms. "Orders are numbered from 1 as they stand": order j stands at place j − 1 of each column.
+use mathlib.Core.Bool.{Bool, true, _&&_}
+use Prim.Native.Nat.{ℕ, _+_}
+use lib.Dec.{leb, ltb}
+use lib.ListN.{set, replicate}
+use Rattle.model.specs.Limits.{inside, release-range, due-range, weight-range, order-counts}
+use Rattle.sheet.specs.Faults.{firstFault}
+use Rattle.sheet.specs.Kinds.{order-kind}
+use Rattle.sheet.specs.declared.Answer.{Answer}
+use Rattle.sheet.specs.declared.Order.{Order}
+use Rattle.sheet.specs.declared.Orders.{Orders}
+
+unfoldable pub noOrders : Orders
+noOrders = record {
+  count = 0;
+  release = replicate 200 0;
+  due = replicate 200 0;
+  weight = replicate 200 0;
+  «name_start» = replicate 200 0;
+  «name_length» = replicate 200 0;
+}
+
+unfoldable pub orderInRange : Order → Bool
+orderInRange o = inside release-range (o .release) && inside due-range (o .due) && inside weight-range (o .weight)
+
+-- an O line after `count` others, under a line of the kind `above`
+unfoldable pub orderFault : ℕ → ℕ → ℕ → Order → Answer
+unfolding firstFault orderInRange
+orderFault line above count o = firstFault line (leb above order-kind) (ltb count (order-counts .most)) (orderInRange o) true
+
+-- one order more
+unfoldable pub withOrder : Orders → Order → Orders
+withOrder s o = record {
+  count = s .count + 1;
+  release = set (s .release) (s .count) (o .release);
+  due = set (s .due) (s .count) (o .due);
+  weight = set (s .weight) (s .count) (o .weight);
+  «name_start» = set (s .«name_start») (s .count) (o .«name_start»);
+  «name_length» = set (s .«name_length») (s .count) (o .«name_length»);
+}

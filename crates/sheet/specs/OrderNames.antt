@@ -1,0 +1,34 @@
+-- DOCUMENT 01, "THE SHEET": "A further call per form gives an order's name back as that very part of the caller's text; it is the empty part
+-- if the text is refused or there is no such order." A refused text has no orders.
+use mathlib.Core.Path.{_≡_}
+use mathlib.Core.Bool.{cond}
+use mathlib.Core.List.{List}
+use Prim.Native.Nat.{ℕ, _+_}
+use denote.Ref.{RefT}
+use lib.ListN.{take, drop}
+use Rattle.numbers.specs.Counting.{nth}
+use Rattle.model.specs.Limits.{inside, _–_}
+use Rattle.sheet.specs.Reading.{readFrom}
+use Rattle.sheet.specs.declared.Form.{Form}
+use Rattle.sheet.specs.declared.Orders.{Orders}
+
+-- where a part of a text starts, and how many bytes it has
+pub record Span : Type 0 where
+  pub start : ℕ
+  pub long : ℕ
+
+-- `part` is that very part of `text`: it stands there in memory, and has those bytes
+pub record IsPart (text part : RefT (List ℕ)) (s : Span) : Type 0 where
+  pub place : part .ptr ≡ (text .ptr .0, s .start + text .ptr .1)
+  pub bytes : part .now ≡ take (s .long) (drop (s .start) (text .now))
+
+-- order j's name, the empty part if there is no such order
+unfoldable pub nameOf : Orders → ℕ → Span
+nameOf o j =
+    cond (inside (1 – (o .count)) j) (record { start = nth (o .«name_start») j; long = nth (o .«name_length») j })
+    (record { start = 0; long = 0 })
+
+-- on a sheet of the form
+unfoldable pub nameIn : Form → List ℕ → ℕ → Span
+unfolding readFrom nameOf
+nameIn form text j = nameOf (readFrom form text 0 .lines .orders) j
