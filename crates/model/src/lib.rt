@@ -1,6 +1,7 @@
-// The types of the code. What they mean is defined in specs/.
+// The types of the code. What they mean is defined in specs/. The sheets are laid out as C lays them out, since exported calls take them.
 
 // A sheet of the window form in memory, in columns. The first `order_count` elements of each order column are orders, and so with trains and windows.
+#[repr(C)]
 pub struct WindowSheet {
     pub gap: u32,
     pub window_count: usize,
@@ -16,6 +17,7 @@ pub struct WindowSheet {
 }
 
 // A sheet of the timetable form in memory.
+#[repr(C)]
 pub struct TimetableSheet {
     pub train_count: usize,
     pub capacity: [u32; 32],

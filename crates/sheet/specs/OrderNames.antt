@@ -11,6 +11,7 @@ use Rattle.model.specs.Limits.{inside, _–_}
 use Rattle.sheet.specs.Reading.{readFrom}
 use Rattle.sheet.specs.declared.Form.{Form}
 use Rattle.sheet.specs.declared.Orders.{Orders}
+use Rattle.sheet.specs.declared.NamePlace.{NamePlace}
 
 -- where a part of a text starts, and how many bytes it has
 pub record Span : Type 0 where
@@ -32,3 +33,7 @@ nameOf o j =
 unfoldable pub nameIn : Form → List ℕ → ℕ → Span
 unfolding readFrom nameOf
 nameIn form text j = nameOf (readFrom form text 0 .lines .orders) j
+
+-- as the two numbers that a call returns
+abbrev pub placeOf : Span → NamePlace
+placeOf s = record { start = s .start; length = s .long }

@@ -14,7 +14,7 @@ use model::TimetableSheet;
 use model::WindowSheet;
 ghost use mathlib.Core.Path.{_≡_};
 ghost use Rattle.sheet.specs.Sheets.{windowReading, timetableReading};
-ghost use Rattle.sheet.specs.OrderNames.{IsPart, nameIn};
+ghost use Rattle.sheet.specs.OrderNames.{IsPart, nameIn, placeOf};
 
 // The two forms of a sheet. The contracts of the naming calls name it.
 pub enum Form {
@@ -105,6 +105,13 @@ pub struct TimetableReading {
     pub sheet: TimetableSheet,
 }
 
+// Where a name starts in the text, and how many bytes it has.
+#[repr(C)]
+pub struct NamePlace {
+    pub start: usize,
+    pub length: usize,
+}
+
 // The O lines so far, in columns; each order's name by its place in the text.
 struct Orders {
     count: usize,
@@ -192,4 +199,27 @@ fn order_name(text: &[u8], order: usize, form: Form) -> &[u8]
     let lines = found.lines;
     let orders = lines.orders;
     order_lines::name_part(text, orders, order)
+}
+
+// Where that name stands in the text, for a caller that cannot be handed a part of it. The window form.
+pub fn name_place_in_windows(text: &[u8], order: usize) -> NamePlace
+    ensures { λ r. ⌜ r ≡ placeOf (nameIn Form.Windows (now (text .entry)) order) ⌝ }
+{
+    order_name_place(text, order, Form::Windows)
+}
+
+// The same for the timetable form.
+pub fn name_place_in_timetable(text: &[u8], order: usize) -> NamePlace
+    ensures { λ r. ⌜ r ≡ placeOf (nameIn Form.Timetable (now (text .entry)) order) ⌝ }
+{
+    order_name_place(text, order, Form::Timetable)
+}
+
+fn order_name_place(text: &[u8], order: usize, form: Form) -> NamePlace
+    ensures { λ r. ⌜ r ≡ placeOf (nameIn form (now (text .entry)) order) ⌝ }
+{
+    let found = text_reader::whole(text, form);
+    let lines = found.lines;
+    let orders = lines.orders;
+    order_lines::name_place(orders, order)
 }

@@ -1,5 +1,6 @@
 // O lines, which both forms have.
 use crate::Answer;
+use crate::NamePlace;
 use crate::Order;
 use crate::Orders;
 use crate::faults::first_fault;
@@ -7,7 +8,7 @@ use crate::fields::in_range;
 ghost use mathlib.Core.Path.{_≡_};
 ghost use Prim.Native.Nat.{_≤_, _<_};
 ghost use Rattle.sheet.specs.OrderLines.{noOrders, orderInRange, orderFault, withOrder};
-ghost use Rattle.sheet.specs.OrderNames.{IsPart, nameOf};
+ghost use Rattle.sheet.specs.OrderNames.{IsPart, nameOf, placeOf};
 ghost use Rattle.sheet.specs.OrderLaws.{NamesIn};
 
 pub fn no_orders() -> Orders
@@ -71,4 +72,30 @@ pub fn name_part(text: &[u8], orders: Orders, order: usize) -> &[u8]
     let start = orders.name_start[place];
     let end = start + orders.name_length[place];
     &text[start..end]
+}
+
+// Where an order's name stands in the text; no bytes at its start if there is no such order.
+pub fn name_place(orders: Orders, order: usize) -> NamePlace
+    requires { ⌜ orders .count ≤ 200 ⌝ }
+    ensures { λ r. ⌜ r ≡ placeOf (nameOf orders order) ⌝ }
+{
+    if order < 1 {
+        return NamePlace {
+            start: 0,
+            length: 0,
+        };
+    }
+    if orders.count < order {
+        return NamePlace {
+            start: 0,
+            length: 0,
+        };
+    }
+    let place = order - 1;
+    let start = orders.name_start[place];
+    let length = orders.name_length[place];
+    NamePlace {
+        start: start,
+        length: length,
+    }
 }

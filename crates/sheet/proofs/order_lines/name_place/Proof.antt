@@ -1,0 +1,43 @@
+-- `name_place` meets its contract: the two tests are the definition's. Assumes nothing.
+use mathlib.Core.Path.{refl}
+use borrow.Author.Tests.{le-leb, lt-leb}
+use Rattle.sheet.specs.OrderNames.{nameOf}
+use borrow.Author.Needs.{needs}
+use Rattle.sheet.proofs.order_lines.name_place.Statement.{statement}
+use Rattle.sheet.proofs.order_lines.name_place.Tie as tie
+
+returns : tie.Need-returns
+unfolding nameOf
+returns c = simp (lt-leb _ _ (c .if1 .taken)) refl
+
+returns-2 : tie.Need-returns-2
+unfolding nameOf
+returns-2 c = simp (le-leb _ _ (c .before .if1 .left), lt-leb _ _ (c .if2 .taken)) refl
+
+mul-start : tie.Need-mul-start
+mul-start c = search needs
+
+element-copy-out-start : tie.Need-element-copy-out-start
+element-copy-out-start c = search needs
+
+mul-length : tie.Need-mul-length
+mul-length c = search needs
+
+element-copy-out-length : tie.Need-element-copy-out-length
+element-copy-out-length c = search needs
+
+returns-3 : tie.Need-returns-3
+unfolding nameOf
+returns-3 c = simp (le-leb _ _ (c .before .before .before .if1 .left), le-leb _ _ (c .before .before .if2 .left)) refl
+
+pub name-place-spec : {M : Type 1} → statement M
+name-place-spec =
+    tie.close
+    (tie.spec
+    returns
+    returns-2
+    mul-start
+    element-copy-out-start
+    mul-length
+    element-copy-out-length
+    returns-3)
