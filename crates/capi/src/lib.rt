@@ -1,0 +1,198 @@
+// The calls for C and Rust, one for each call of the library. They take and return numbers, slices (in C a pointer, then a length) and structs laid
+// out as in C, and ask nothing of their caller. include/joshkamber.h declares them.
+use model::Refusal;
+use model::Reply;
+use model::TimetableSheet;
+use model::WindowSheet;
+use sheet::Answer;
+use sheet::NamePlace;
+ghost use mathlib.Core.Path.{_≡_};
+ghost use Rattle.model.specs.Memory.{windowSheet, timetableSheet};
+ghost use Rattle.sheet.specs.OrderNames.{nameIn, placeOf};
+ghost use Rattle.sheet.specs.declared.Form.the-variants.{Windows, Timetable};
+ghost use Rattle.planner.specs.Told.{areas};
+ghost use Rattle.capi.specs.Exported.{causeOf, causeIn, windowsRead, timetableRead, planningOf, Exported};
+
+// Why an input is refused: document 01's number and returned value. 0 and 0 say that it is not.
+#[repr(C)]
+pub struct Cause {
+    pub number: usize,
+    pub returned: usize,
+}
+
+// A text of the window form as read: the sheet, or the cause beside the empty sheet.
+#[repr(C)]
+pub struct WindowsRead {
+    pub cause: Cause,
+    pub sheet: WindowSheet,
+}
+
+// The same for the timetable form.
+#[repr(C)]
+pub struct TimetableRead {
+    pub cause: Cause,
+    pub sheet: TimetableSheet,
+}
+
+// What planning a sheet gives: how many pairs are listed and how many rounds were made, or the cause beside 0 and 0.
+#[repr(C)]
+pub struct Planning {
+    pub cause: Cause,
+    pub pairs: usize,
+    pub rounds: usize,
+}
+
+fn cause_of(refusal: Refusal) -> Cause
+    ensures { λ r. ⌜ r ≡ causeOf refusal ⌝ }
+{
+    match refusal {
+        Refusal::Malformed(line) => Cause {
+            number: 1,
+            returned: line,
+        },
+        Refusal::OutOfRange(line) => Cause {
+            number: 2,
+            returned: line,
+        },
+        Refusal::KindTooEarly(line) => Cause {
+            number: 3,
+            returned: line,
+        },
+        Refusal::TooMany(line) => Cause {
+            number: 4,
+            returned: line,
+        },
+        Refusal::KindMissing => Cause {
+            number: 5,
+            returned: 0,
+        },
+        Refusal::OutOfOrder(line) => Cause {
+            number: 6,
+            returned: line,
+        },
+        Refusal::PlacesDiffer => Cause {
+            number: 7,
+            returned: 0,
+        },
+        Refusal::NoSchedule => Cause {
+            number: 8,
+            returned: 0,
+        },
+        Refusal::RoundLimit => Cause {
+            number: 9,
+            returned: 0,
+        },
+        Refusal::AreaTooShort => Cause {
+            number: 10,
+            returned: 0,
+        },
+    }
+}
+
+fn cause_in(answer: Answer) -> Cause
+    ensures { λ r. ⌜ r ≡ causeIn answer ⌝ }
+{
+    match answer {
+        Answer::Read => Cause {
+            number: 0,
+            returned: 0,
+        },
+        Answer::Refused(refusal) => cause_of(refusal),
+    }
+}
+
+fn planning_of(reply: Reply) -> Planning
+    ensures { λ r. ⌜ r ≡ planningOf reply ⌝ }
+{
+    match reply {
+        Reply::Planned { pairs, rounds } => Planning {
+            cause: Cause {
+                number: 0,
+                returned: 0,
+            },
+            pairs: pairs,
+            rounds: rounds,
+        },
+        Reply::Refused(refusal) => Planning {
+            cause: cause_of(refusal),
+            pairs: 0,
+            rounds: 0,
+        },
+    }
+}
+
+// Reads a text of the window form.
+#[no_mangle]
+pub extern "C" fn joshkamber_read_windows(text: &[u8]) -> WindowsRead
+    ensures { λ r. ⌜ r ≡ windowsRead (now (text .entry)) ⌝ }
+{
+    let reading = sheet::read_windows(text);
+    let answer = reading.answer;
+    let cause = cause_in(answer);
+    let sheet = reading.sheet;
+    WindowsRead {
+        cause: cause,
+        sheet: sheet,
+    }
+}
+
+// Reads a text of the timetable form.
+#[no_mangle]
+pub extern "C" fn joshkamber_read_timetable(text: &[u8]) -> TimetableRead
+    ensures { λ r. ⌜ r ≡ timetableRead (now (text .entry)) ⌝ }
+{
+    let reading = sheet::read_timetable(text);
+    let answer = reading.answer;
+    let cause = cause_in(answer);
+    let sheet = reading.sheet;
+    TimetableRead {
+        cause: cause,
+        sheet: sheet,
+    }
+}
+
+// Where the name of an order, numbered from 1, stands in a text of the window form.
+#[no_mangle]
+pub extern "C" fn joshkamber_name_in_windows(text: &[u8], order: usize) -> NamePlace
+    ensures { λ r. ⌜ r ≡ placeOf (nameIn Windows (now (text .entry)) order) ⌝ }
+{
+    sheet::name_place_in_windows(text, order)
+}
+
+// The same for the timetable form.
+#[no_mangle]
+pub extern "C" fn joshkamber_name_in_timetable(text: &[u8], order: usize) -> NamePlace
+    ensures { λ r. ⌜ r ≡ placeOf (nameIn Timetable (now (text .entry)) order) ⌝ }
+{
+    sheet::name_place_in_timetable(text, order)
+}
+
+// Plans a sheet of the window form.
+#[no_mangle]
+pub extern "C" fn joshkamber_plan_windows(
+    sheet: WindowSheet,
+    pairs: &mut [i64],
+    train_of_order: &mut [u8],
+    times: &mut [u32],
+) -> Planning
+    ensures { λ r. ⌜ Exported (windowSheet sheet) r
+        (areas (now (pairs .exit)) (now («train_of_order» .exit)) (now (times .exit))) (areas (now (pairs .entry)) (now («train_of_order» .entry)) (now (times .entry))) ⌝ }
+{
+    let reply = planner::plan_windows(sheet, pairs, train_of_order, times);
+    planning_of(reply)
+}
+
+// Plans a sheet of the timetable form.
+#[no_mangle]
+pub extern "C" fn joshkamber_plan_timetable(
+    sheet: TimetableSheet,
+    pairs: &mut [i64],
+    train_of_order: &mut [u8],
+    times: &mut [u32],
+) -> Planning
+    ensures { λ r. ⌜ Exported (timetableSheet sheet) r
+        (areas (now (pairs .exit)) (now («train_of_order» .exit)) (now (times .exit))) (areas (now (pairs .entry)) (now («train_of_order» .entry)) (now (times .entry))) ⌝ }
+{
+    let reply = planner::plan_timetable(sheet, pairs, train_of_order, times);
+    planning_of(reply)
+}

@@ -1,0 +1,65 @@
+-- `fields::put` meets its contract: each return is one case of a byte in the pass. Assumes nothing.
+use Prim.Native.Nat.{_<_, _≤_}
+use mathlib.Core.Path.{_≡_, refl, sym, ap, _∙_}
+use native.Mathlib.Omega.{arith}
+use lib.ListN.{length}
+use Rattle.printer.specs.WritingLaws.{put-past, put-short, put-written, put-counted}
+use borrow.Author.Needs.{needs}
+use Rattle.printer.proofs.fields.put.Statement.{statement}
+use Rattle.printer.proofs.fields.put.Tie as tie
+
+enum-known-place : tie.Need-enum-known-place
+enum-known-place c = search needs
+
+enum-told : tie.Need-enum-told
+enum-told c = search needs
+
+returns : tie.Need-returns
+returns c =
+    let a = c .before .before .args in
+    rw (c .enum-told .given .1) (sym (put-past (a .writing) (a .byte) (a .out .now)))
+
+returns-2 : tie.Need-returns-2
+returns-2 c =
+    let a = c .before .before .before .before .args in
+    let p = c .before .before .place .given in
+    rw (p .1) (sym (put-short (a .writing) (a .byte) (p .0 .0) (a .out .now) (omega arith)))
+
+slice-write-out : tie.Need-slice-write-out
+slice-write-out c = search needs
+
+add-t9 : tie.Need-add-t9
+add-t9 c = search needs
+
+same-length : tie.Need-same-length
+same-length c = search needs
+
+returns-3 : tie.Need-returns-3
+returns-3 c =
+    let a = c .before .before .before .before .before .args in
+    let p = c .before .before .before .place .given in
+    rw (c .if2 .taken, p .1) (sym (put-written (a .byte) (p .0 .0) (a .out .now) (omega arith)))
+
+add-t6 : tie.Need-add-t6
+add-t6 c = search needs
+
+returns-4 : tie.Need-returns-4
+returns-4 c =
+    let a = c .before .before .before .before .before .args in
+    let p = c .before .before .before .place .given in
+    rw (c .if2 .left, p .1) (sym (put-counted (a .byte) (p .0 .0) (a .out .now) (omega arith)))
+
+pub put-spec : {M : Type 1} → statement M
+put-spec =
+    tie.close
+    (tie.spec
+    enum-known-place
+    enum-told
+    returns
+    returns-2
+    slice-write-out
+    add-t9
+    same-length
+    returns-3
+    add-t6
+    returns-4)

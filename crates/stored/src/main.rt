@@ -1,0 +1,51 @@
+// Plans each stored sheet that the file `list` names, and prints its name and its plan.
+use libc::STDOUT_FILENO;
+use printer::Printed;
+
+fn report(text: &[u8]) {
+    let mut out: [u8; 131072] = [0; 131072];
+    let printed = desk::print_text(text, &mut out);
+    let Printed::Bytes(length) = printed else {
+        return;
+    };
+    io::write_all(STDOUT_FILENO, &out[0..length]);
+}
+
+fn plan_file(name: &[u8]) {
+    io::write_all(STDOUT_FILENO, name);
+    io::write_all(STDOUT_FILENO, b"\n");
+    let file = os::open_read(name);
+    if file < 0 {
+        os::fail(name);
+        return;
+    }
+    let mut buffer = io::large_buffer();
+    let length = io::read_full(file, &mut buffer);
+    libc::close(file);
+    report(&buffer[..length]);
+}
+
+// The names end with byte 10 each.
+fn plan_list(names: &[u8]) {
+    let mut start: usize = 0;
+    let mut i: usize = 0;
+    while i < names.len() {
+        if names[i] == 10 {
+            plan_file(&names[start..i]);
+            start = i + 1;
+        }
+        i += 1;
+    }
+}
+
+fn main() {
+    let file = os::open_read(b"list");
+    if file < 0 {
+        os::fail(b"list");
+        return;
+    }
+    let mut buffer = io::large_buffer();
+    let length = io::read_full(file, &mut buffer);
+    libc::close(file);
+    plan_list(&buffer[..length]);
+}

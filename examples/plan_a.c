@@ -1,0 +1,53 @@
+/* Plans document 01's case a and prints the plan as the program `plan` does.
+ *
+ *    cc -I include examples/plan_a.c target/staticlib/libcapi.a -o plan_a && ./plan_a
+ */
+#include <inttypes.h>
+#include <stdio.h>
+
+#include "joshkamber.h"
+
+static const char case_a[] =
+    "G,60\n"
+    "W,0,100\n"
+    "W,150,200\n"
+    "T,1,30\n"
+    "T,2,20\n"
+    "O,A,0,60,1\n"
+    "O,B,40,60,3\n"
+    "O,C,90,200,1\n";
+
+/* Long enough for every sheet. */
+static int64_t pairs[2 * JOSHKAMBER_MOST_ORDERS * JOSHKAMBER_MOST_TRAINS];
+static uint8_t train_of_order[JOSHKAMBER_MOST_ORDERS];
+static uint32_t times[2 * JOSHKAMBER_MOST_TRAINS];
+
+static int refused(joshkamber_cause cause) {
+    if (cause.number != 0)
+        printf("E,%zu,%zu\n", cause.number, cause.returned);
+    return cause.number != 0;
+}
+
+int main(void) {
+    const uint8_t *text = (const uint8_t *)case_a;
+    size_t length = sizeof case_a - 1;
+
+    joshkamber_windows_read read = joshkamber_read_windows(text, length);
+    if (refused(read.cause))
+        return 1;
+    joshkamber_planning plan = joshkamber_plan_windows(read.sheet, pairs, sizeof pairs / sizeof *pairs, train_of_order, sizeof train_of_order,
+                                                       times, sizeof times / sizeof *times);
+    if (refused(plan.cause))
+        return 1;
+
+    for (size_t k = 0; k < plan.pairs; k++)
+        printf("P,%" PRId64 ",%" PRId64 "\n", pairs[2 * k], pairs[2 * k + 1]);
+    for (size_t i = 0; i < read.sheet.train_count; i++)
+        printf("D,%zu,%" PRIu32 ",%" PRIu32 "\n", i + 1, times[2 * i], times[2 * i + 1]);
+    for (size_t j = 0; j < read.sheet.order_count; j++) {
+        joshkamber_name_place name = joshkamber_name_in_windows(text, length, j + 1);
+        printf("L,%.*s,%u\n", (int)name.length, case_a + name.start, train_of_order[j]);
+    }
+    printf("R,%zu\n", plan.rounds);
+    return 0;
+}

@@ -1,0 +1,114 @@
+/* Joshkamber's calls for C. Link with libcapi.a, which `rt staticlib capi` writes to target/staticlib (x86-64 Linux).
+ *
+ * Every call returns, asks nothing of its arguments but valid memory, and keeps nothing between calls. What each promises is stated and proved in
+ * crates/capi/src/lib.rt.
+ *
+ * Lent memory does not overlap and is not touched by others during a call. A pointer is never null, not even with length 0.
+ */
+#ifndef JOSHKAMBER_H
+#define JOSHKAMBER_H
+
+#include <stddef.h>
+#include <stdint.h>
+
+#ifdef __cplusplus
+extern "C" {
+#endif
+
+enum {
+    JOSHKAMBER_MOST_WINDOWS = 64,
+    JOSHKAMBER_MOST_TRAINS = 32,
+    JOSHKAMBER_MOST_ORDERS = 200
+};
+
+/* Why an input is refused; number 0: it is not.
+ *
+ *    1  a line of no known form, or no final byte 10      6  windows, departures or arrivals out of order
+ *    2  a value outside its range                         7  the capacities do not add up to the number of orders
+ *    3  a kind of line earlier than the line above        8  there is no schedule
+ *    4  one more of a kind than allowed                   9  round limit
+ *    5  a kind is missing                                10  a lent area is too short
+ *
+ * `returned` is the line, from 1, where a reading call refuses with 1, 2, 3, 4 or 6, and else 0. */
+typedef struct {
+    size_t number;
+    size_t returned;
+} joshkamber_cause;
+
+/* A sheet of the window form, in columns. The first `order_count` elements of each order column are orders, and so with trains and windows; what
+ * stands behind them is not read. Times are whole minutes. */
+typedef struct {
+    uint32_t gap;
+    size_t window_count;
+    uint32_t window_from[JOSHKAMBER_MOST_WINDOWS];
+    uint32_t window_to[JOSHKAMBER_MOST_WINDOWS];
+    size_t train_count;
+    uint32_t capacity[JOSHKAMBER_MOST_TRAINS];
+    uint32_t running[JOSHKAMBER_MOST_TRAINS];
+    size_t order_count;
+    uint32_t release[JOSHKAMBER_MOST_ORDERS];
+    uint32_t due[JOSHKAMBER_MOST_ORDERS];
+    uint32_t weight[JOSHKAMBER_MOST_ORDERS];
+} joshkamber_window_sheet;
+
+/* A sheet of the timetable form. */
+typedef struct {
+    size_t train_count;
+    uint32_t capacity[JOSHKAMBER_MOST_TRAINS];
+    uint32_t departure[JOSHKAMBER_MOST_TRAINS];
+    uint32_t arrival[JOSHKAMBER_MOST_TRAINS];
+    size_t order_count;
+    uint32_t release[JOSHKAMBER_MOST_ORDERS];
+    uint32_t due[JOSHKAMBER_MOST_ORDERS];
+    uint32_t weight[JOSHKAMBER_MOST_ORDERS];
+} joshkamber_timetable_sheet;
+
+/* What reading gives: the sheet, or the cause beside an empty sheet. */
+typedef struct {
+    joshkamber_cause cause;
+    joshkamber_window_sheet sheet;
+} joshkamber_windows_read;
+
+typedef struct {
+    joshkamber_cause cause;
+    joshkamber_timetable_sheet sheet;
+} joshkamber_timetable_read;
+
+/* Where a name starts in the text, and how many bytes it has; 0 and 0 if the text is refused or has no such order. */
+typedef struct {
+    size_t start;
+    size_t length;
+} joshkamber_name_place;
+
+/* What planning gives: how many pairs are listed and how many rounds were made, or the cause beside 0 and 0. */
+typedef struct {
+    joshkamber_cause cause;
+    size_t pairs;
+    size_t rounds;
+} joshkamber_planning;
+
+/* Reads a text. Refusals 1 to 7. */
+joshkamber_windows_read joshkamber_read_windows(const uint8_t *text, size_t length);
+joshkamber_timetable_read joshkamber_read_timetable(const uint8_t *text, size_t length);
+
+/* The place of an order's name in a text; orders are numbered from 1. */
+joshkamber_name_place joshkamber_name_in_windows(const uint8_t *text, size_t length, size_t order);
+joshkamber_name_place joshkamber_name_in_timetable(const uint8_t *text, size_t length, size_t order);
+
+/* Plans a sheet of n orders and q trains, and tests it first: refusals 2 and 4 to 10. The lent areas, with their lengths in elements:
+ *
+ *    pairs            at least 2 n q    last arrival and worst weighted lateness of each listed pair, by rising arrival
+ *    train_of_order   at least n        the train, from 1, of each order in the plan of the last pair
+ *    times            at least 2 q      departure and arrival of each train in that plan
+ *
+ * Only the front of each is written (2 times the listed pairs, n, 2 q elements), and nothing where the call refuses. */
+joshkamber_planning joshkamber_plan_windows(joshkamber_window_sheet sheet, int64_t *pairs, size_t pairs_length, uint8_t *train_of_order,
+                                            size_t train_of_order_length, uint32_t *times, size_t times_length);
+joshkamber_planning joshkamber_plan_timetable(joshkamber_timetable_sheet sheet, int64_t *pairs, size_t pairs_length, uint8_t *train_of_order,
+                                              size_t train_of_order_length, uint32_t *times, size_t times_length);
+
+#ifdef __cplusplus
+}
+#endif
+
+#endif

@@ -1,0 +1,71 @@
+#!/bin/sh
+# The tests in Rust and C over the static library: the Rust package native/, the C example, and a short run of the benchmark.
+# The last line counts them all; the exit status is 0 only if none failed.
+set -u
+cd "$(dirname "$0")/.." || exit 2
+library=target/staticlib/libcapi.a
+stored=${NATIVE_DATA:-crates/stored/data}
+[ -d "$stored" ] || stored=data-proposal
+NATIVE_DATA=$(cd "$stored" && pwd) || exit 2
+export NATIVE_DATA
+
+passed=0
+failed=0
+work=$(mktemp -d) || exit 2
+trap 'rm -rf "$work"' EXIT
+
+# one NAME COMMAND..: a test that passes if the command succeeds
+one() {
+    name=$1
+    shift
+    if "$@"; then
+        passed=$((passed + 1))
+        echo "native: $name: ok"
+    else
+        failed=$((failed + 1))
+        echo "native: $name: FAILED"
+    fi
+}
+
+# rt proves only what has changed, so this is quick where the library is up to date
+library() {
+    rt staticlib capi >"$work/staticlib" 2>&1 && [ -f "$library" ] || { tail -n 20 "$work/staticlib"; return 1; }
+}
+
+# the tests of the package, added up from cargo's own result lines; a failure that no such line tells counts as one
+rust_tests() {
+    (cd native && cargo test -j1 --release --offline -- --nocapture) >"$work/cargo" 2>&1
+    status=$?
+    grep -E '^(listing|stored sheets|test result|differs|error)|FAILED|panicked' "$work/cargo"
+    counts=$(sed -n 's/^test result: .* \([0-9][0-9]*\) passed; \([0-9][0-9]*\) failed;.*/\1 \2/p' "$work/cargo")
+    good=$(echo "$counts" | awk '{ sum += $1 } END { print sum + 0 }')
+    bad=$(echo "$counts" | awk '{ sum += $2 } END { print sum + 0 }')
+    if [ "$status" -ne 0 ] && [ "$bad" -eq 0 ] || [ "$good" -eq 0 ]; then
+        tail -n 20 "$work/cargo"
+        bad=$((bad + 1))
+    fi
+    passed=$((passed + good))
+    failed=$((failed + bad))
+}
+
+c_example() {
+    cc -std=c99 -Wall -Wextra -Werror -pedantic -I include examples/plan_a.c "$library" -o "$work/plan_a" &&
+        "$work/plan_a" >"$work/plan_a.out" &&
+        cmp "$work/plan_a.out" examples/plan_a.expected
+}
+
+# every stored hard sheet is timed once or more, and both planners agree on pairs and rounds; the figures are printed, not judged
+benchmark() {
+    (cd native && cargo run -q -j1 --release --offline --bin bench -- 5) >"$work/bench" 2>&1
+    status=$?
+    cat "$work/bench"
+    [ "$status" -eq 0 ] && tail -n 1 "$work/bench" | grep -q '^bench: .* of [1-9][0-9]* ratios'
+}
+
+one "static library" library
+rust_tests
+one "C example" c_example
+one "benchmark" benchmark
+
+echo "$passed passed, $failed failed"
+[ "$failed" -eq 0 ]
