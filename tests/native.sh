@@ -34,7 +34,7 @@ library() {
 
 # the tests of the package, added up from cargo's own result lines; a failure that no such line tells counts as one
 rust_tests() {
-    (cd native && cargo test -j1 --release --offline -- --nocapture) >"$work/cargo" 2>&1
+    (cd native && cargo test -j1 --release --offline --no-fail-fast -- --nocapture) >"$work/cargo" 2>&1
     status=$?
     grep -E '^(listing|stored sheets|test result|differs|error)|FAILED|panicked' "$work/cargo"
     counts=$(sed -n 's/^test result: .* \([0-9][0-9]*\) passed; \([0-9][0-9]*\) failed;.*/\1 \2/p' "$work/cargo")

@@ -12,7 +12,7 @@ use Rattle.model.specs.Sheet.{Sheet}
 use Rattle.model.specs.declared.Refusal.{Refusal}
 use Rattle.model.specs.declared.Reply.{Reply}
 use Rattle.model.specs.declared.Reply.the-variants.{Planned, Refused}
-use Rattle.rounds.specs.Areas.{Areas}
+use Rattle.rounds.specs.Areas.{Areas, answer-to, areas-after, reply}
 use Rattle.model.specs.Memory.{windowSheet, timetableSheet}
 use Rattle.sheet.specs.Sheets.{windowReading, timetableReading}
 use Rattle.sheet.specs.declared.Answer.{Answer}
@@ -43,19 +43,26 @@ text-within text found r after p = go (timetable-form text) refl
     go true e = printing-within (timetableReading text .answer) text true (timetableSheet (timetableReading text .sheet)) found r after (p .by-timetable e)
     go false e = printing-within (windowReading text .answer) text false (windowSheet (windowReading text .sheet)) found r after (p .by-windows e)
 
+-- the reply and the areas are those of document 01's rounds, as the planning call's equality says
+pub plan-equal :
+    (text : List ℕ) (by-timetable : Bool) (s : Sheet) (found : List ℕ) (r : Printed) (after : List ℕ) (p : PlanPrinted text by-timetable s found r after)
+    → Prints (reply-bytes text by-timetable (s .orders) (s .trains) (reply (answer-to s (p .lent))) (areas-after s (answer-to s (p .lent)) (p .lent)))
+    found r after
+plan-equal text by-timetable s found r after p = rw (← p .call .equal .replied, ← p .call .equal .areas-left) (p .prints)
+
 -- ---- what each call shows
 
-module _ (text : List ℕ) (by-timetable : Bool) (orders trains : ℕ) (reply : Reply) (left : Areas) {found : List ℕ} {r : Printed} {after : List ℕ} where
+module _ (text : List ℕ) (by-timetable : Bool) (orders trains : ℕ) (answered : Reply) (left : Areas) {found : List ℕ} {r : Printed} {after : List ℕ} where
   pub planned-printed :
-      (k rounds : ℕ) (pairs : List ℤ) (loaded times : List ℕ) → reply ≡ Planned k rounds → pairs ≡ take (2 * k) (left .pairs)
+      (k rounds : ℕ) (pairs : List ℤ) (loaded times : List ℕ) → answered ≡ Planned k rounds → pairs ≡ take (2 * k) (left .pairs)
       → loaded ≡ take orders (left .trains) → times ≡ take (2 * trains) (left .times)
       → Prints (plan-bytes text by-timetable pairs loaded times rounds) found r after
-      → Prints (reply-bytes text by-timetable orders trains reply left) found r after
+      → Prints (reply-bytes text by-timetable orders trains answered left) found r after
   unfolding reply-bytes
   planned-printed k rounds pairs loaded times e p l t h = rw (e, ← p, ← l, ← t) h
 
   pub refused-printed :
-      (q : Refusal) → reply ≡ Refused q → Prints (refusal-line q) found r after → Prints (reply-bytes text by-timetable orders trains reply left) found r after
+      (q : Refusal) → answered ≡ Refused q → Prints (refusal-line q) found r after → Prints (reply-bytes text by-timetable orders trains answered left) found r after
   unfolding reply-bytes
   refused-printed q e h = rw e h
 

@@ -14,34 +14,6 @@ use Rattle.rounds.specs.Loading.{free, greater, pick, put, take-orders, load-do
 use Rattle.planner.specs.Bounds.{AtMost}
 use Rattle.planner.specs.BoundsLaws.{at-most-set}
 
-pub free-unloaded : (latest train : List ℕ) (i j : ℕ) → at train j ≡ 0 → leb i (at latest j) ≡ free latest train i j
-free-unloaded latest train i j e = rw e
-
-pub free-loaded : (latest train : List ℕ) (i j : ℕ) → (at train j ≡ 0 → ⊥) → false ≡ free latest train i j
-free-loaded latest train i j h = rw (ne-eqb (at train j) 0 h)
-
--- ---- the greater of two
-
-module _ (release : ℕ → ℕ) (j best : ℕ) (may : Bool) where
-  pub greater-first : may ≡ true → best ≡ 0 → j + 1 ≡ greater release j best may
-  unfolding greater
-  greater-first t e = rw (t, e, add-one)
-
-  pub greater-not : may ≡ false → best ≡ greater release j best may
-  unfolding greater
-  greater-not t = rw t
-
-module _ (release : ℕ → ℕ) (j : ℕ) where
-  pub greater-over : (best : ℕ) (may : Bool) → may ≡ true → (best ≡ 0 → ⊥) → release (best - 1) ≤ release j → j + 1 ≡ greater release j best may
-  unfolding greater
-  greater-over zero may t e h = absurd (e refl)
-  greater-over (suc b) may t e h = let u : suc b - 1 ≡ b = omega arith in rw (t, le-leb (release b) (release j) (rw u at h), add-one)
-
-  pub greater-stays : (best : ℕ) (may : Bool) → may ≡ true → (best ≡ 0 → ⊥) → release j < release (best - 1) → best ≡ greater release j best may
-  unfolding greater
-  greater-stays zero may t e h = absurd (e refl)
-  greater-stays (suc b) may t e h = let u : suc b - 1 ≡ b = omega arith in rw (t, lt-leb (release b) (release j) (rw u at h))
-
 -- ---- picking
 
 module _ (release : ℕ → ℕ) (latest train : List ℕ) (i : ℕ) where

@@ -1,60 +1,49 @@
 // Step 1 of a round: loading. Train 0 means not yet loaded.
 ghost use mathlib.Core.Path.{_≡_};
-ghost use Prim.Native.Nat.{_+_, _<_, _≤_};
+ghost use mathlib.Core.Bool.{_&&_};
+ghost use Prim.Native.Nat.{_≤_, max};
+ghost use lib.Dec.{eqb, leb};
 ghost use lib.ListN.{length, replicate};
 ghost use Rattle.numbers.specs.Counting.{at, nth};
-ghost use Rattle.rounds.specs.Loading.{free, greater, pick, take-orders, load};
+ghost use Rattle.rounds.specs.Loading.{pick, take-orders, load};
 ghost use Rattle.planner.specs.Bounds.{AtMost};
+ghost use Rattle.planner.specs.Keys.{freeKey};
 
-// Whether the order at place j may ride train i.
-fn may_ride(latest: &[u8], train: &[u8], i: u8, j: usize) -> bool
-    requires { ⌜ (j < length (now latest)) × (j < length (now train)) ⌝ }
-    ensures { λ r. ⌜ r ≡ free (now (latest .entry)) (now (train .entry)) i j ⌝ }
+// Release and number of an order in one key, which is greater exactly where (release, number) is; 0 where the order may not ride train i.
+fn key_of(release: u32, latest: u8, train: u8, i: u8, number: u32) -> u32
+    requires { ⌜ (release ≤ 100000) × (number ≤ 255) ⌝ }
+    ensures { λ r. ⌜ r ≡ freeKey release number (eqb train 0 && leb i latest) ⌝ }
 {
-    if train[j] == 0 { i <= latest[j] } else { false }
+    let key = release * 256 + number;
+    if (train == 0) & (i <= latest) { key } else { 0 }
 }
 
-// The greater of the best so far and the order at place j, if that one may ride. Orders are given by number, 0 is none.
-fn greater_of(release: &[u32], j: usize, best: usize, may: bool) -> usize
-    requires { ⌜ (j < length (now release)) × (best ≤ j) ⌝ }
-    ensures is { λ r. ⌜ r ≡ greater (at (now (release .entry))) j best may ⌝ }
-    ensures low { λ r. ⌜ r ≤ j + 1 ⌝ }
+fn larger_key(a: u32, b: u32) -> u32
+    ensures { λ r. ⌜ r ≡ max a b ⌝ }
 {
-    if may {
-        if best == 0 {
-            j + 1
-        } else {
-            let b = best - 1;
-            if release[b] <= release[j] {
-                j + 1
-            } else {
-                best
-            }
-        }
-    } else {
-        best
-    }
+    if a < b { b } else { a }
 }
 
-// The number of the free order that train i takes next; 0 if none is free.
+// The number of the free order that train i takes next; 0 if none is free. The loop has no branch but its own, so that it runs several orders at once.
 fn pick_order(release: &[u32], latest: &[u8], train: &[u8], i: u8) -> usize
-    requires { ⌜ (length (now release) ≡ length (now train)) × (length (now latest) ≡ length (now train)) ⌝ }
+    requires { ⌜ (length (now release) ≡ length (now train)) × (length (now latest) ≡ length (now train)) × (length (now train) ≤ 200) × AtMost 100000 (now release) ⌝ }
     ensures is { λ r. ⌜ r ≡ pick (at (now (release .entry))) (now (latest .entry)) (now (train .entry)) i (length (now (train .entry))) ⌝ }
     ensures low { λ r. ⌜ r ≤ length (now (train .entry)) ⌝ }
 {
-    let mut best: usize = 0;
+    let mut best: u32 = 0;
     let mut j: usize = 0;
     while j < train.len() {
-        let may = may_ride(latest, train, i, j);
-        best = greater_of(release, j, best, may);
+        let number = (j + 1) as u32;
+        let key = key_of(release[j], latest[j], train[j], i, number);
+        best = larger_key(best, key);
         j += 1;
     }
-    best
+    (best % 256) as usize
 }
 
 // Train i takes k orders, or as many as are free.
 fn fill_train(train: &mut [u8], release: &[u32], latest: &[u8], i: u8, k: u32)
-    requires { ⌜ (length (now release) ≡ length (now train)) × (length (now latest) ≡ length (now train)) ⌝ }
+    requires { ⌜ (length (now release) ≡ length (now train)) × (length (now latest) ≡ length (now train)) × (length (now train) ≤ 200) × AtMost 100000 (now release) ⌝ }
     ensures { λ _. ⌜ now (train .exit) ≡ take-orders (length (now (train .entry))) (at (now (release .entry))) (now (latest .entry)) i k (now (train .entry)) ⌝ }
 {
     let mut taken: u32 = 0;
@@ -83,6 +72,7 @@ fn unload(train: &mut [u8])
 // Loads the orders, from the last train down to the first.
 pub fn load_trains(train: &mut [u8], release: &[u32], latest: &[u8], capacity: &[u32])
     requires { ⌜ (length (now release) ≡ length (now train)) × (length (now latest) ≡ length (now train)) × (length (now capacity) ≤ 32) ⌝ }
+    requires { ⌜ (length (now train) ≤ 200) × AtMost 100000 (now release) ⌝ }
     ensures is { λ _. ⌜ now (train .exit) ≡ load (length (now (release .entry))) (length (now (capacity .entry))) (at (now (release .entry))) (nth (now (capacity .entry))) (now (latest .entry)) ⌝ }
     ensures low { λ _. ⌜ AtMost (length (now (capacity .entry))) (now (train .exit)) ⌝ }
 {

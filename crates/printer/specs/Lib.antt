@@ -5,3 +5,4 @@ pub mod LineLaws
 pub mod Writing
 pub mod WritingLaws
 pub mod SizeLaws
+pub mod CaseLaws

@@ -33,9 +33,9 @@ loop-holds c =
     let n = length (a .release .now) in
     let q = length (a .capacity .now) in
     let t = c .before .before .unload .last .0 in
-    let clear : t ≡ replicate n 0 = rw (s .pre .0) (c .before .before .unload .ensures) in (
+    let clear : t ≡ replicate n 0 = rw (s .pre .0 .0) (c .before .before .unload .ensures) in (
       omega arith,
-      omega (arith, c .before .before .unload .kept, s .pre .0),
+      omega (arith, c .before .before .unload .kept, s .pre .0 .0),
       rw clear (at-most-noughts q n),
       rw clear (load-start n (at (a .release .now)) (nth (a .capacity .now)) (a .latest .now) q),
     )
@@ -76,7 +76,7 @@ loop-again c =
     )
 
 same-length : tie.Need-same-length Inv-loop μ-loop
-same-length c = c .before .loop .inv .1 ∙ c .before .before .before .before .before .before .before .before .before .before .pre .0
+same-length c = c .before .loop .inv .1 ∙ c .before .before .before .before .before .before .before .before .before .before .pre .0 .0
 
 returns : tie.Need-returns Inv-loop μ-loop
 returns c =

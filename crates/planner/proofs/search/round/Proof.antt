@@ -38,7 +38,7 @@ slice-aggregate-load-trains c = simp length-take (omega (arith, c .before .befor
 load-trains-requires : tie.Need-load-trains-requires
 load-trains-requires c κs =
     let p = c .before .before .before .before .before .before .before .before .before .before .before .before .before .before .before .before .before .before .pre .1 in
-    (sym (p .1 .train-match), simp length-take (omega (arith, p .0 .orders-most, p .1 .latest-long, p .1 .train-match)), p .0 .trains-most)
+    ((sym (p .1 .train-match), simp length-take (omega (arith, p .0 .orders-most, p .1 .latest-long, p .1 .train-match)), p .0 .trains-most), (omega (arith, p .0 .orders-most, p .1 .train-match), p .0 .release-most))
 
 times-of-requires : tie.Need-times-of-requires
 times-of-requires c κs =
