@@ -4,9 +4,7 @@
 set -u
 cd "$(dirname "$0")/.." || exit 2
 library=target/staticlib/libcapi.a
-stored=${NATIVE_DATA:-crates/stored/data}
-[ -d "$stored" ] || stored=data-proposal
-NATIVE_DATA=$(cd "$stored" && pwd) || exit 2
+NATIVE_DATA=$(cd "${NATIVE_DATA:-crates/stored/data}" && pwd) || exit 2
 export NATIVE_DATA
 
 passed=0
