@@ -7,7 +7,7 @@ use Prim.Native.Nat.{ℕ, zero, suc, _+_, _-_, _≤_, _<_, max}
 use native.Mathlib.Numerals.{add-one}
 use native.Mathlib.Omega.{arith}
 use native.Mathlib.Nat.{mul-le-mul}
-use lib.Dec.{leb}
+use lib.Dec.{eqb, leb}
 use lib.ListN.{length, getD, set, take, drop, drop-of-length-le, List·getD-eq-default}
 use lib.Seq.{take-suc, take-length, take-suc-set, getD-take, drop-cons, set-at, append-snoc}
 use borrow.Author.Tests.{eq-eqb, ne-eqb, le-leb, lt-leb, leb-true}
@@ -34,13 +34,9 @@ module _ (release : ℕ → ℕ) (train : List ℕ) (i : ℕ) where
   unfolding ready
   ready-none = refl
 
-  pub ready-on : (j : ℕ) → at train j ≡ i → ready release train (j + 1) i ≡ max (release j) (ready release train j i)
+  pub ready-more : (j : ℕ) → ready release train (j + 1) i ≡ max (cond (eqb (at train j) i) (release j) 0) (ready release train j i)
   unfolding ready
-  ready-on j e = rw (add-one, eq-eqb (at train j) i e)
-
-  pub ready-off : (j : ℕ) → ¬ (at train j ≡ i) → ready release train (j + 1) i ≡ ready release train j i
-  unfolding ready
-  ready-off j e = rw (add-one, ne-eqb (at train j) i e) (omega arith)
+  ready-more j = rw add-one
 
 -- ---- windows
 

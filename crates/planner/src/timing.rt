@@ -1,9 +1,9 @@
 // Step 2 of a round: the departures and arrivals of the trains. Train i stands at place i - 1 of every list.
 ghost use mathlib.Core.Path.{_≡_};
-ghost use mathlib.Core.Bool.{true};
+ghost use mathlib.Core.Bool.{true, cond};
 ghost use mathlib.Core.List.{List, _++_};
 ghost use Prim.Native.Nat.{ℕ, _+_, _*_, _<_, _≤_, max};
-ghost use lib.Dec.{leb};
+ghost use lib.Dec.{eqb, leb};
 ghost use lib.ListN.{length, take, drop};
 ghost use Rattle.numbers.specs.Counting.{at, nth, row, each};
 ghost use Rattle.model.specs.Sheet.{windows, timetable};
@@ -24,6 +24,14 @@ fn later(a: u32, b: u32) -> u32
     a
 }
 
+// The release of an order that rides train i, and 0 of any other.
+fn release_if(release: u32, train: u8, i: u8) -> u32
+    ensures is { λ r. ⌜ r ≡ cond (eqb train i) release 0 ⌝ }
+    ensures low { λ r. ⌜ r ≤ release ⌝ }
+{
+    if train == i { release } else { 0 }
+}
+
 // The greatest release on train i.
 fn release_on(release: &[u32], train: &[u8], i: u8) -> u32
     requires { ⌜ (length (now release) ≡ length (now train)) × AtMost 100000 (now release) ⌝ }
@@ -33,9 +41,8 @@ fn release_on(release: &[u32], train: &[u8], i: u8) -> u32
     let mut released: u32 = 0;
     let mut j: usize = 0;
     while j < train.len() {
-        if train[j] == i {
-            released = later(release[j], released);
-        }
+        let here = release_if(release[j], train[j], i);
+        released = later(here, released);
         j += 1;
     }
     released

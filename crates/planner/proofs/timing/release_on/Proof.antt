@@ -1,12 +1,12 @@
 -- `planner::timing::release_on` meets its contract: after j orders the result so far is the greatest release among the first j on the train. Assumes nothing.
+use borrow.Author.Needs.{needs}
 use Prim.Native.Nat.{_≤_, _-_}
 use native.Mathlib.Omega.{arith}
-use mathlib.Core.Logic.{⊎-elim}
 use mathlib.Core.Path.{_≡_}
 use lib.ListN.{length}
 use Rattle.numbers.specs.Counting.{at}
 use Rattle.rounds.specs.Timing.{ready}
-use Rattle.planner.specs.TimingLaws.{ready-none, ready-on, ready-off}
+use Rattle.planner.specs.TimingLaws.{ready-none, ready-more}
 use Rattle.planner.proofs.timing.release_on.Statement.{statement}
 use Rattle.planner.proofs.timing.release_on.Tie as tie
 
@@ -19,17 +19,20 @@ abbrev μ-loop : tie.MeasureT-loop
 loop-holds : tie.Need-loop-holds Inv-loop μ-loop
 loop-holds c = (omega arith, ready-none _ _ _, omega arith)
 
-shared-slice-read-if1 : tie.Need-shared-slice-read-if1 Inv-loop μ-loop
-shared-slice-read-if1 c = omega arith
+mul-release-if : tie.Need-mul-release-if Inv-loop μ-loop
+mul-release-if c = omega arith
 
-mul-later : tie.Need-mul-later Inv-loop μ-loop
-mul-later c = omega arith
+shared-slice-read-release-if : tie.Need-shared-slice-read-release-if Inv-loop μ-loop
+shared-slice-read-release-if c = omega arith
 
-shared-slice-read-later : tie.Need-shared-slice-read-later Inv-loop μ-loop
-shared-slice-read-later c = omega arith
+shared-slice-read-release-if-2 : tie.Need-shared-slice-read-release-if-2 Inv-loop μ-loop
+shared-slice-read-release-if-2 c = omega arith
+
+release-if-requires : tie.Need-release-if-requires Inv-loop μ-loop
+release-if-requires c κs = search needs
 
 later-requires : tie.Need-later-requires Inv-loop μ-loop
-later-requires c κs = omega arith
+later-requires c κs = search needs
 
 add-j : tie.Need-add-j Inv-loop μ-loop
 add-j c = omega arith
@@ -39,16 +42,15 @@ loop-less c = omega arith
 
 loop-again : tie.Need-loop-again Inv-loop μ-loop
 loop-again c =
-    let b = c .before .before .before .before .before .before in
+    let b = c .before .before .before .before .before .before .before .before in
     let a = b .args in
-    let l = c .before .before .before .loop in
-    let bound = b .pre .1 .below (l .j) in
-    let on = ready-on (at (a .release .now)) (a .train .now) (a .i) (l .j) in
-    let off = ready-off (at (a .release .now)) (a .train .now) (a .i) (l .j) in
-    ⊎-elim
-    (λ w. (omega arith, omega (arith, on (w .0 .taken)), omega arith))
-    (λ w. (omega arith, omega (arith, off (w .0 .left)), omega arith))
-    (c .if1 .came)
+    let l = c .before .before .before .before .before .loop in
+    let here = c .before .release-if in
+    let bound = b .pre .1 .below (l .j) in (
+      omega arith,
+      omega (arith, c .later .ensures, here .ensures .0, l .inv .1, ready-more (at (a .release .now)) (a .train .now) (a .i) (l .j)),
+      omega (arith, c .later .ensures, here .ensures .1, bound),
+    )
 
 returns : tie.Need-returns Inv-loop μ-loop
 returns c =
@@ -62,9 +64,10 @@ release-on-spec =
     Inv-loop
     μ-loop
     loop-holds
-    shared-slice-read-if1
-    mul-later
-    shared-slice-read-later
+    mul-release-if
+    shared-slice-read-release-if
+    shared-slice-read-release-if-2
+    release-if-requires
     later-requires
     add-j
     loop-less
