@@ -1,8 +1,8 @@
 pub mod Bounds
 pub mod BoundsLaws
 pub mod LoadingStepLaws
-pub mod Keys
-pub mod KeyLaws
+pub mod Ranks
+pub mod RankLaws
 pub mod GradingStepLaws
 pub mod Columns
 pub mod Clocked

@@ -4,6 +4,7 @@ mod admission;
 mod calls;
 mod grading;
 mod loading;
+mod ranking;
 mod recording;
 mod search;
 mod timing;

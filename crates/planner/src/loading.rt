@@ -7,52 +7,54 @@ ghost use lib.ListN.{length, replicate};
 ghost use Rattle.numbers.specs.Counting.{at, nth};
 ghost use Rattle.rounds.specs.Loading.{pick, take-orders, load};
 ghost use Rattle.planner.specs.Bounds.{AtMost};
-ghost use Rattle.planner.specs.Keys.{freeKey};
+ghost use Rattle.planner.specs.Ranks.{freeRank, rankOf, Placed};
 
-// Release and number of an order in one key, which is greater exactly where (release, number) is; 0 where the order may not ride train i.
-fn key_of(release: u32, latest: u8, train: u8, i: u8, number: u32) -> u32
-    requires { ⌜ (release ≤ 100000) × (number ≤ 255) ⌝ }
-    ensures { λ r. ⌜ r ≡ freeKey release number (eqb train 0 && leb i latest) ⌝ }
+// The rank of an order; 0 where it may not ride train i.
+fn free_rank(rank: u8, latest: u8, train: u8, i: u8) -> u8
+    ensures { λ r. ⌜ r ≡ freeRank rank (eqb train 0 && leb i latest) ⌝ }
 {
-    let key = release * 256 + number;
-    if (train == 0) & (i <= latest) { key } else { 0 }
+    if (train == 0) & (i <= latest) {
+        rank
+    } else {
+        0
+    }
 }
 
-fn larger_key(a: u32, b: u32) -> u32
+fn larger_rank(a: u8, b: u8) -> u8
     ensures { λ r. ⌜ r ≡ max a b ⌝ }
 {
     if a < b { b } else { a }
 }
 
-// The number of the free order that train i takes next; 0 if none is free. The loop has no branch but its own, so that it runs several orders at once.
-fn pick_order(release: &[u32], latest: &[u8], train: &[u8], i: u8) -> usize
-    requires { ⌜ (length (now release) ≡ length (now train)) × (length (now latest) ≡ length (now train)) × (length (now train) ≤ 200) × AtMost 100000 (now release) ⌝ }
-    ensures is { λ r. ⌜ r ≡ pick (at (now (release .entry))) (now (latest .entry)) (now (train .entry)) i (length (now (train .entry))) ⌝ }
-    ensures low { λ r. ⌜ r ≤ length (now (train .entry)) ⌝ }
+// The rank of the free order that train i takes next; 0 if none is free. The loop has no branch but its own and reads bytes only, so that it runs
+// many orders at once.
+fn pick_rank(ranks: &[u8], latest: &[u8], train: &[u8], i: u8) -> u8
+    requires { ⌜ (length (now ranks) ≡ length (now train)) × (length (now latest) ≡ length (now train)) ⌝ }
+    ensures { λ r. ⌜ r ≡ rankOf (at (now (ranks .entry))) (pick (at (now (ranks .entry))) (now (latest .entry)) (now (train .entry)) i (length (now (train .entry)))) ⌝ }
 {
-    let mut best: u32 = 0;
+    let mut best: u8 = 0;
     let mut j: usize = 0;
     while j < train.len() {
-        let number = (j + 1) as u32;
-        let key = key_of(release[j], latest[j], train[j], i, number);
-        best = larger_key(best, key);
+        let rank = free_rank(ranks[j], latest[j], train[j], i);
+        best = larger_rank(best, rank);
         j += 1;
     }
-    (best % 256) as usize
+    best
 }
 
 // Train i takes k orders, or as many as are free.
-fn fill_train(train: &mut [u8], release: &[u32], latest: &[u8], i: u8, k: u32)
-    requires { ⌜ (length (now release) ≡ length (now train)) × (length (now latest) ≡ length (now train)) × (length (now train) ≤ 200) × AtMost 100000 (now release) ⌝ }
-    ensures { λ _. ⌜ now (train .exit) ≡ take-orders (length (now (train .entry))) (at (now (release .entry))) (now (latest .entry)) i k (now (train .entry)) ⌝ }
+fn fill_train(train: &mut [u8], ranks: &[u8], places: &[u8], latest: &[u8], i: u8, k: u32)
+    requires { ⌜ Placed (length (now train)) (now ranks) (now places) × (length (now latest) ≡ length (now train)) ⌝ }
+    ensures { λ _. ⌜ now (train .exit) ≡ take-orders (length (now (train .entry))) (at (now (ranks .entry))) (now (latest .entry)) i k (now (train .entry)) ⌝ }
 {
     let mut taken: u32 = 0;
     while taken < k {
-        let order = pick_order(release, latest, train, i);
-        if order == 0 {
+        let rank = pick_rank(ranks, latest, train, i);
+        if rank == 0 {
             return;
         }
-        let j = order - 1;
+        let m = (rank - 1) as usize;
+        let j = places[m] as usize;
         train[j] = i;
         taken += 1;
     }
@@ -69,18 +71,17 @@ fn unload(train: &mut [u8])
     }
 }
 
-// Loads the orders, from the last train down to the first.
-pub fn load_trains(train: &mut [u8], release: &[u32], latest: &[u8], capacity: &[u32])
-    requires { ⌜ (length (now release) ≡ length (now train)) × (length (now latest) ≡ length (now train)) × (length (now capacity) ≤ 32) ⌝ }
-    requires { ⌜ (length (now train) ≤ 200) × AtMost 100000 (now release) ⌝ }
-    ensures is { λ _. ⌜ now (train .exit) ≡ load (length (now (release .entry))) (length (now (capacity .entry))) (at (now (release .entry))) (nth (now (capacity .entry))) (now (latest .entry)) ⌝ }
+// Loads the orders, from the last train down to the first. Picks go by rank, which loads as by release.
+pub fn load_trains(train: &mut [u8], ranks: &[u8], places: &[u8], latest: &[u8], capacity: &[u32])
+    requires { ⌜ Placed (length (now train)) (now ranks) (now places) × (length (now latest) ≡ length (now train)) × (length (now capacity) ≤ 32) ⌝ }
+    ensures is { λ _. ⌜ now (train .exit) ≡ load (length (now (ranks .entry))) (length (now (capacity .entry))) (at (now (ranks .entry))) (nth (now (capacity .entry))) (now (latest .entry)) ⌝ }
     ensures low { λ _. ⌜ AtMost (length (now (capacity .entry))) (now (train .exit)) ⌝ }
 {
     unload(train);
     let mut i: usize = capacity.len();
     while i > 0 {
         let m = i - 1;
-        fill_train(train, release, latest, i as u8, capacity[m]);
+        fill_train(train, ranks, places, latest, i as u8, capacity[m]);
         i = m;
     }
 }

@@ -1,6 +1,7 @@
 // The rounds: one round, for both forms, and the loop over rounds.
 use crate::grading;
 use crate::loading;
+use crate::ranking;
 use crate::recording;
 use crate::timing;
 use model::Refusal;
@@ -20,6 +21,7 @@ ghost use Rattle.planner.specs.Bounds.{AtMost};
 ghost use Rattle.planner.specs.Columns.{sheetIn};
 ghost use Rattle.planner.specs.Clocked.{Clocked};
 ghost use Rattle.planner.specs.Lent.{TimeColumns, formIn, TimesBy, OrderColumns};
+ghost use Rattle.planner.specs.Ranks.{Ranked};
 ghost use Rattle.planner.specs.Shows.{Shows, Settled, Ready, Room};
 ghost use Rattle.planner.specs.Graded.{Graded};
 ghost use Rattle.planner.specs.Told.{areas, Told};
@@ -181,6 +183,8 @@ fn round(
     release: &[u32],
     due: &[u32],
     weight: &[u32],
+    ranks: &[u8],
+    places: &[u8],
     train: &mut [u8],
     departure: &mut [u32],
     arrival: &mut [u32],
@@ -191,6 +195,7 @@ fn round(
     requires { ⌜ TimesBy «by_timetable» (record { by-timetable = «by_timetable»; gap = gap; from = now from; to = now to; running = now running; departure = now «fixed_departure»; arrival = now «fixed_arrival» }) (length (now capacity)) ⌝ }
     requires { ⌜ OrderColumns (now capacity) (now release) (now due) (now weight) ⌝ }
     requires { ⌜ Ready (length (now release)) (length (now capacity)) s (length (now train)) (length (now departure)) (length (now arrival)) (length (now pairs)) (length (now «train_of_order»)) (length (now times)) ⌝ }
+    requires { ⌜ Ranked (at (now release)) (length (now release)) (now ranks) (now places) ⌝ }
     ensures is { λ r. ⌜ ((x : Search) (pairs₀ : List ℤ) (trains₀ times₀ : List ℕ)
         → Shows (length (now (release .entry))) (length (now (capacity .entry))) s (now (pairs .entry)) (now («train_of_order» .entry)) (now (times .entry)) pairs₀ trains₀ times₀ x
         → Shows (length (now (release .entry))) (length (now (capacity .entry))) r (now (pairs .exit)) (now («train_of_order» .exit)) (now (times .exit)) pairs₀ trains₀ times₀
@@ -203,7 +208,7 @@ fn round(
     }
     let n = release.len();
     let latest = s.latest;
-    loading::load_trains(train, release, &latest[..n], capacity);
+    loading::load_trains(train, ranks, places, &latest[..n], capacity);
     let timed = times_of(
         by_timetable,
         gap,
@@ -272,6 +277,9 @@ pub fn all_rounds(
     let n = release.len();
     let q = capacity.len();
     let most = n * q;
+    let mut ranks = [0u8; 200];
+    let mut places = [0u8; 200];
+    ranking::rank_orders(release, &mut ranks[..n], &mut places[..n]);
     let mut train = [0u8; 200];
     let mut departure = [0u32; 32];
     let mut arrival = [0u32; 32];
@@ -299,6 +307,8 @@ pub fn all_rounds(
             release,
             due,
             weight,
+            &ranks[..n],
+            &places[..n],
             &mut train[..n],
             &mut departure[..q],
             &mut arrival[..q],

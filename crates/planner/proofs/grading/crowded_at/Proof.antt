@@ -11,7 +11,7 @@ use borrow.Author.Tests.{le-leb, lt-leb}
 use borrow.Author.Needs.{needs}
 use Rattle.numbers.specs.CountingLaws.{count-le}
 use Rattle.numbers.specs.Counting.{at, count}
-use Rattle.planner.specs.GradingStepLaws.{count-start, count-more}
+use Rattle.planner.specs.GradingStepLaws.{count-start, count-yes, count-no}
 use Rattle.planner.proofs.grading.crowded_at.Statement.{statement}
 use Rattle.planner.proofs.grading.crowded_at.Tie as tie
 
@@ -46,8 +46,8 @@ loop-again c =
     let l = c .before .before .before .loop in
     let p : ℕ → Bool = λ m. leb (at (a .latest .now) m) (a .i) in (
       omega arith,
-      ⊎-elim (λ w. omega (arith, w .1, l .inv .1, rw (le-leb (at (a .latest .now) (l .j)) (a .i) (w .0 .taken)) at (count-more p (l .j))))
-          (λ w. omega (arith, w .1, l .inv .1, rw (lt-leb (at (a .latest .now) (l .j)) (a .i) (w .0 .left)) at (count-more p (l .j))))
+      ⊎-elim (λ w. omega (arith, w .1, l .inv .1, count-yes p (l .j) (le-leb (at (a .latest .now) (l .j)) (a .i) (w .0 .taken))))
+          (λ w. omega (arith, w .1, l .inv .1, count-no p (l .j) (lt-leb (at (a .latest .now) (l .j)) (a .i) (w .0 .left))))
           (c .if1 .came),
     )
 

@@ -4,48 +4,92 @@ use Prim.Native.Nat.{_≤_, _+_, _-_}
 use mathlib.Core.Path.{_≡_, refl, sym, ap, _∙_}
 use native.Mathlib.Nat.{sub-zero}
 use native.Mathlib.Omega.{arith}
-use lib.ListN.{length, length-set}
+use lib.ListN.{length, set, length-set}
 use borrow.Author.Needs.{needs}
-use Rattle.numbers.specs.Counting.{at}
+use Rattle.numbers.specs.Counting.{at, nth}
 use Rattle.rounds.specs.Loading.{pick, put, take-orders}
+use Rattle.planner.specs.Ranks.{rankOf}
+use Rattle.planner.specs.RankLaws.{pick-low, unpicked, picked-low, picked-place, picked-some}
 use Rattle.planner.specs.LoadingStepLaws.{put-picked, take-turn, take-done, take-none}
 use Rattle.planner.proofs.loading.fill_train.Statement.{statement}
 use Rattle.planner.proofs.loading.fill_train.Tie as tie
 
 abbrev Inv-loop : tie.InvT-loop
-Inv-loop train₀ release latest i k taken₀ train taken =
+Inv-loop train₀ ranks places latest i k taken₀ train taken =
     (taken ≤ k)
     × (length train ≡ length train₀)
-    × (take-orders (length train₀) (at release) latest i (k - taken) train ≡ take-orders (length train₀) (at release) latest i k train₀)
+    × (take-orders (length train₀) (at ranks) latest i (k - taken) train ≡ take-orders (length train₀) (at ranks) latest i k train₀)
 
 abbrev μ-loop : tie.MeasureT-loop
-μ-loop train₀ release latest i k taken₀ train taken = k - taken
+μ-loop train₀ ranks places latest i k taken₀ train taken = k - taken
 
 loop-holds : tie.Need-loop-holds Inv-loop μ-loop
 loop-holds c = (omega arith, refl, simp sub-zero)
 
-pick-order-requires : tie.Need-pick-order-requires Inv-loop μ-loop
-pick-order-requires c κs = search needs
+pick-rank-requires : tie.Need-pick-rank-requires Inv-loop μ-loop
+pick-rank-requires c κs = (omega (arith, c .before .before .before .before .before .before .before .pre .0 .ranks-match, c .before .before .loop .inv .1), omega (arith, c .before .before .before .before .before .before .before .pre .1, c .before .before .loop .inv .1))
 
 same-length : tie.Need-same-length Inv-loop μ-loop
 same-length c = search needs
 
 returns : tie.Need-returns Inv-loop μ-loop
 returns c =
-    let a = c .before .before .before .before .before .before .before .before .args in
+    let a = c .before .before .before .before .before .before .before .before .before .args in
     let l = c .before .before .before .before .loop in
     let n = length (a .train .now) in
-    let r = at (a .release .now) in
+    let r = at (a .ranks .now) in
     let t = a .latest .now in
-    let none : pick r t (l .train) (a .i) n ≡ 0 =
-    ap (pick r t (l .train) (a .i)) (sym (l .inv .1)) ∙ sym (c .before .pick-order .ensures .0) ∙ c .if1 .taken in
+    let b = pick r t (l .train) (a .i) n in
+    let is : c .before .pick-rank .result ≡ rankOf r b = c .before .pick-rank .ensures ∙ ap (λ m. rankOf r (pick r t (l .train) (a .i) m)) (l .inv .1) in
+    let none : b ≡ 0 = unpicked n (a .ranks .now) (a .places .now) (c .before .before .before .before .before .before .before .before .before .pre .0) b (pick-low r t (l .train) (a .i) n) (sym is ∙ c .if1 .taken) in
     sym (take-none n r t (a .i) (a .k - l .taken) (l .train) none) ∙ l .inv .2
 
-sub-j : tie.Need-sub-j Inv-loop μ-loop
-sub-j c = search needs
+sub-m : tie.Need-sub-m Inv-loop μ-loop
+sub-m c = search needs
+
+cast-m : tie.Need-cast-m Inv-loop μ-loop
+cast-m c = search needs
+
+shared-slice-read-j : tie.Need-shared-slice-read-j Inv-loop μ-loop
+shared-slice-read-j c =
+    let a = c .before .before .before .before .before .before .before .before .before .before .args in
+    let l = c .before .before .before .before .before .loop in
+    let n = length (a .train .now) in
+    let r = at (a .ranks .now) in
+    let t = a .latest .now in
+    let b = pick r t (l .train) (a .i) n in
+    let is : c .before .before .pick-rank .result ≡ rankOf r b = c .before .before .pick-rank .ensures ∙ ap (λ m. rankOf r (pick r t (l .train) (a .i) m)) (l .inv .1) in
+    omega (arith, is, picked-low n (a .ranks .now) (a .places .now) (c .before .before .before .before .before .before .before .before .before .before .pre .0) b (pick-low r t (l .train) (a .i) n), c .before .before .before .before .before .before .before .before .before .before .pre .0 .places-match, c .before .if1 .left)
+
+cast-j : tie.Need-cast-j Inv-loop μ-loop
+cast-j c =
+    let a = c .before .before .before .before .before .before .before .before .before .before .args in
+    let l = c .before .before .before .before .before .loop in
+    let n = length (a .train .now) in
+    let r = at (a .ranks .now) in
+    let t = a .latest .now in
+    let b = pick r t (l .train) (a .i) n in
+    let is : c .before .before .pick-rank .result ≡ rankOf r b = c .before .before .pick-rank .ensures ∙ ap (λ m. rankOf r (pick r t (l .train) (a .i) m)) (l .inv .1) in
+    let some : rankOf r b ≡ 0 → ⊥ = λ e. c .before .if1 .left (is ∙ e) in
+    let low : b ≤ n = pick-low r t (l .train) (a .i) n in
+    let place : nth (a .places .now) (c .before .before .pick-rank .result) ≡ b - 1 =
+    ap (nth (a .places .now)) is ∙ picked-place n (a .ranks .now) (a .places .now) (c .before .before .before .before .before .before .before .before .before .before .pre .0) b low some in
+    omega (arith, place, low)
 
 slice-write-train : tie.Need-slice-write-train Inv-loop μ-loop
-slice-write-train c = search needs
+slice-write-train c =
+    let a = c .before .before .before .before .before .before .before .before .before .before .args in
+    let l = c .before .before .before .before .before .loop in
+    let n = length (a .train .now) in
+    let r = at (a .ranks .now) in
+    let t = a .latest .now in
+    let b = pick r t (l .train) (a .i) n in
+    let is : c .before .before .pick-rank .result ≡ rankOf r b = c .before .before .pick-rank .ensures ∙ ap (λ m. rankOf r (pick r t (l .train) (a .i) m)) (l .inv .1) in
+    let some : rankOf r b ≡ 0 → ⊥ = λ e. c .before .if1 .left (is ∙ e) in
+    let low : b ≤ n = pick-low r t (l .train) (a .i) n in
+    let place : nth (a .places .now) (c .before .before .pick-rank .result) ≡ b - 1 =
+    ap (nth (a .places .now)) is ∙ picked-place n (a .ranks .now) (a .places .now) (c .before .before .before .before .before .before .before .before .before .before .pre .0) b low some in
+    omega (arith, place, low, picked-some n (a .ranks .now) (a .places .now) (c .before .before .before .before .before .before .before .before .before .before .pre .0) b some, l .inv .1)
 
 add-taken : tie.Need-add-taken Inv-loop μ-loop
 add-taken c = search needs
@@ -55,18 +99,22 @@ loop-less c = search needs
 
 loop-again : tie.Need-loop-again Inv-loop μ-loop
 loop-again c =
-    let a = c .before .before .before .before .before .before .before .before .args in
-    let l = c .before .before .before .before .loop in
+    let a = c .before .before .before .before .before .before .before .before .before .before .args in
+    let l = c .before .before .before .before .before .loop in
     let n = length (a .train .now) in
-    let r = at (a .release .now) in
+    let r = at (a .ranks .now) in
     let t = a .latest .now in
-    let order = c .before .pick-order .result in
-    let picked : order ≡ pick r t (l .train) (a .i) n = c .before .pick-order .ensures .0 ∙ ap (pick r t (l .train) (a .i)) (l .inv .1) in (
+    let b = pick r t (l .train) (a .i) n in
+    let is : c .before .before .pick-rank .result ≡ rankOf r b = c .before .before .pick-rank .ensures ∙ ap (λ m. rankOf r (pick r t (l .train) (a .i) m)) (l .inv .1) in
+    let some : rankOf r b ≡ 0 → ⊥ = λ e. c .before .if1 .left (is ∙ e) in
+    let low : b ≤ n = pick-low r t (l .train) (a .i) n in
+    let place : nth (a .places .now) (c .before .before .pick-rank .result) ≡ b - 1 =
+    ap (nth (a .places .now)) is ∙ picked-place n (a .ranks .now) (a .places .now) (c .before .before .before .before .before .before .before .before .before .before .pre .0) b low some in
+    let put-on : set (l .train) (nth (a .places .now) (c .before .before .pick-rank .result)) (a .i) ≡ put (l .train) (a .i) b =
+    ap (λ j. set (l .train) j (a .i)) place ∙ put-picked (l .train) (a .i) b (picked-some n (a .ranks .now) (a .places .now) (c .before .before .before .before .before .before .before .before .before .before .pre .0) b some) in (
       omega arith,
-      length-set (l .train) (order - 1) (a .i) ∙ l .inv .1,
-      ap (take-orders n r t (a .i) (a .k - (l .taken + 1))) (put-picked (l .train) (a .i) order (c .if1 .left) ∙ ap (put (l .train) (a .i)) picked)
-          ∙ sym (take-turn n r t (a .i) (a .k) (l .taken) (l .train) (omega arith))
-          ∙ l .inv .2,
+      length-set (l .train) (nth (a .places .now) (c .before .before .pick-rank .result)) (a .i) ∙ l .inv .1,
+      ap (take-orders n r t (a .i) (a .k - (l .taken + 1))) put-on ∙ sym (take-turn n r t (a .i) (a .k) (l .taken) (l .train) (omega arith)) ∙ l .inv .2,
     )
 
 same-length-2 : tie.Need-same-length-2 Inv-loop μ-loop
@@ -74,9 +122,9 @@ same-length-2 c = search needs
 
 returns-2 : tie.Need-returns-2 Inv-loop μ-loop
 returns-2 c =
-    let a = c .before .before .before .before .before .args in
+    let a = c .before .before .before .before .before .before .args in
     let l = c .before .loop in
-    sym (take-done (length (a .train .now)) (at (a .release .now)) (a .latest .now) (a .i) (a .k) (l .taken) (l .train) (omega arith)) ∙ l .inv .2
+    sym (take-done (length (a .train .now)) (at (a .ranks .now)) (a .latest .now) (a .i) (a .k) (l .taken) (l .train) (omega arith)) ∙ l .inv .2
 
 pub fill-train-spec : {M : Type 1} → statement M
 fill-train-spec =
@@ -85,10 +133,13 @@ fill-train-spec =
     Inv-loop
     μ-loop
     loop-holds
-    pick-order-requires
+    pick-rank-requires
     same-length
     returns
-    sub-j
+    sub-m
+    cast-m
+    shared-slice-read-j
+    cast-j
     slice-write-train
     add-taken
     loop-less

@@ -11,30 +11,46 @@ use Rattle.rounds.specs.Rounds.{start, rounds}
 use Rattle.front.specs.Front.{never-cut-off}
 use Rattle.planner.specs.Columns.{sheetIn}
 use Rattle.planner.specs.Lent.{TimeColumns, formIn}
+use Rattle.planner.specs.RankLaws.{ranks-room, places-room, ranks-front, places-front, ranked-front}
 use Rattle.planner.specs.RunLaws.{Turn, first-turn, first-latest, first-most, next-shows, ends-none, ends-planned, cut-off}
 use Rattle.planner.proofs.search.all_rounds.Statement.{statement}
 use Rattle.planner.proofs.search.all_rounds.Tie as tie
 
 abbrev Inv-loop : tie.InvT-loop
-Inv-loop by-timetable gap from to running fixed-departure fixed-arrival capacity release due weight pairs₀ train-of-order₀ times₀ n q most train₀ departure₀ arrival₀ s₀ k₀ pairs train-of-order times train departure arrival s k =
+Inv-loop by-timetable gap from to running fixed-departure fixed-arrival capacity release due weight pairs₀ train-of-order₀ times₀ n q most ranks places train₀ departure₀ arrival₀ s₀ k₀ pairs train-of-order times train departure arrival s k =
     Turn (sheetIn capacity release due weight (formIn (record { by-timetable = by-timetable; gap = gap; from = from; to = to; running = running; departure = fixed-departure; arrival = fixed-arrival })))
     s pairs train-of-order times pairs₀ train-of-order₀ times₀ k
     × (k ≤ most) × (length train ≡ 200) × (length departure ≡ 32) × (length arrival ≡ 32)
     × (length pairs ≡ length pairs₀) × (length train-of-order ≡ length train-of-order₀) × (length times ≡ length times₀)
 
 abbrev μ-loop : tie.MeasureT-loop
-μ-loop by-timetable gap from to running fixed-departure fixed-arrival capacity release due weight pairs₀ train-of-order₀ times₀ n q most train₀ departure₀ arrival₀ s₀ k₀ pairs train-of-order times train departure arrival s k =
+μ-loop by-timetable gap from to running fixed-departure fixed-arrival capacity release due weight pairs₀ train-of-order₀ times₀ n q most ranks places train₀ departure₀ arrival₀ s₀ k₀ pairs train-of-order times train departure arrival s k =
     most - k
 
 mul-most : tie.Need-mul-most Inv-loop μ-loop
 mul-most c = omega (arith, mul-le-mul (c .before .before .before .before .before .before .before .before .before .before .before .pre .1 .0 .orders-most) (c .before .before .before .before .before .before .before .before .before .before .before .pre .1 .0 .trains-most))
 
+array-borrow-prefix-ranks : tie.Need-array-borrow-prefix-ranks Inv-loop μ-loop
+array-borrow-prefix-ranks c = omega (arith, c .before .before .before .before .before .before .before .before .before .before .before .pre .1 .0 .orders-most)
+
+slice-aggregate-rank-orders : tie.Need-slice-aggregate-rank-orders Inv-loop μ-loop
+slice-aggregate-rank-orders c = simp length-take (omega (arith, c .before .before .before .before .before .before .before .before .before .before .before .before .pre .1 .0 .orders-most))
+
+array-borrow-prefix-places : tie.Need-array-borrow-prefix-places Inv-loop μ-loop
+array-borrow-prefix-places c = omega (arith, c .before .before .before .before .before .before .before .before .before .before .before .before .pre .1 .0 .orders-most)
+
+slice-aggregate-rank-orders-2 : tie.Need-slice-aggregate-rank-orders-2 Inv-loop μ-loop
+slice-aggregate-rank-orders-2 c = simp length-take (omega (arith, c .before .before .before .before .before .before .before .before .before .before .before .before .before .pre .1 .0 .orders-most))
+
+rank-orders-requires : tie.Need-rank-orders-requires Inv-loop μ-loop
+rank-orders-requires c κs = (simp length-take (omega (arith, c .before .before .before .before .before .before .before .before .before .before .before .before .before .pre .1 .0 .orders-most)), simp length-take (omega (arith, c .before .before .before .before .before .before .before .before .before .before .before .before .before .pre .1 .0 .orders-most)), c .before .before .before .before .before .before .before .before .before .before .before .before .before .pre .1 .0 .orders-most)
+
 cast-latest : tie.Need-cast-latest Inv-loop μ-loop
-cast-latest c = omega (arith, c .before .before .before .before .before .before .before .before .before .before .before .pre .1 .0 .trains-most)
+cast-latest c = omega (arith, c .before .before .before .before .before .before .before .before .before .before .before .before .before .before .before .before .pre .1 .0 .trains-most)
 
 loop-holds : tie.Need-loop-holds Inv-loop μ-loop
 loop-holds c =
-    let b = c .before .before .before .before .before .before .before .before .before .before .before in
+    let b = c .before .before .before .before .before .before .before .before .before .before .before .before .before .before .before .before in
     let a = b .args in
     let T : TimeColumns = record { by-timetable = a .by-timetable; gap = a .gap; from = a .from .now; to = a .to .now; running = a .running .now; departure = a .fixed-departure .now; arrival = a .fixed-arrival .now } in
     let S : Sheet = sheetIn (a .capacity .now) (a .release .now) (a .due .now) (a .weight .now) (formIn T) in
@@ -51,118 +67,133 @@ loop-holds c =
       refl,
     )
 
-array-borrow-prefix-train : tie.Need-array-borrow-prefix-train Inv-loop μ-loop
-array-borrow-prefix-train c = omega (arith, c .before .before .before .before .before .before .before .before .before .before .before .before .before .pre .1 .0 .orders-most, c .before .loop .inv)
+array-share-prefix-ranks : tie.Need-array-share-prefix-ranks Inv-loop μ-loop
+array-share-prefix-ranks c = ranks-room (c .before .before .before .before .rank-orders .ensures) _
 
 slice-aggregate-round : tie.Need-slice-aggregate-round Inv-loop μ-loop
-slice-aggregate-round c = simp length-take (omega (arith, c .before .before .before .before .before .before .before .before .before .before .before .before .before .before .pre .1 .0 .orders-most, c .before .before .loop .inv))
+slice-aggregate-round c = ranks-front (c .before .before .before .before .before .rank-orders .ensures) _
 
-array-borrow-prefix-departure : tie.Need-array-borrow-prefix-departure Inv-loop μ-loop
-array-borrow-prefix-departure c = omega (arith, c .before .before .before .before .before .before .before .before .before .before .before .before .before .before .pre .1 .0 .trains-most, c .before .before .loop .inv)
+array-share-prefix-places : tie.Need-array-share-prefix-places Inv-loop μ-loop
+array-share-prefix-places c = places-room (c .before .before .before .before .before .rank-orders .ensures) _
 
 slice-aggregate-round-2 : tie.Need-slice-aggregate-round-2 Inv-loop μ-loop
-slice-aggregate-round-2 c = simp length-take (omega (arith, c .before .before .before .before .before .before .before .before .before .before .before .before .before .before .before .pre .1 .0 .trains-most, c .before .before .before .loop .inv))
+slice-aggregate-round-2 c = places-front (c .before .before .before .before .before .before .rank-orders .ensures) _
 
-array-borrow-prefix-arrival : tie.Need-array-borrow-prefix-arrival Inv-loop μ-loop
-array-borrow-prefix-arrival c = omega (arith, c .before .before .before .before .before .before .before .before .before .before .before .before .before .before .before .pre .1 .0 .trains-most, c .before .before .before .loop .inv)
+array-borrow-prefix-train : tie.Need-array-borrow-prefix-train Inv-loop μ-loop
+array-borrow-prefix-train c = omega (arith, c .before .before .before .before .before .before .before .before .before .before .before .before .before .before .before .before .before .before .before .before .pre .1 .0 .orders-most, c .before .before .before .loop .inv)
 
 slice-aggregate-round-3 : tie.Need-slice-aggregate-round-3 Inv-loop μ-loop
-slice-aggregate-round-3 c = simp length-take (omega (arith, c .before .before .before .before .before .before .before .before .before .before .before .before .before .before .before .before .pre .1 .0 .trains-most, c .before .before .before .before .loop .inv))
+slice-aggregate-round-3 c = simp length-take (omega (arith, c .before .before .before .before .before .before .before .before .before .before .before .before .before .before .before .before .before .before .before .before .before .pre .1 .0 .orders-most, c .before .before .before .before .loop .inv))
+
+array-borrow-prefix-departure : tie.Need-array-borrow-prefix-departure Inv-loop μ-loop
+array-borrow-prefix-departure c = omega (arith, c .before .before .before .before .before .before .before .before .before .before .before .before .before .before .before .before .before .before .before .before .before .pre .1 .0 .trains-most, c .before .before .before .before .loop .inv)
+
+slice-aggregate-round-4 : tie.Need-slice-aggregate-round-4 Inv-loop μ-loop
+slice-aggregate-round-4 c = simp length-take (omega (arith, c .before .before .before .before .before .before .before .before .before .before .before .before .before .before .before .before .before .before .before .before .before .before .pre .1 .0 .trains-most, c .before .before .before .before .before .loop .inv))
+
+array-borrow-prefix-arrival : tie.Need-array-borrow-prefix-arrival Inv-loop μ-loop
+array-borrow-prefix-arrival c = omega (arith, c .before .before .before .before .before .before .before .before .before .before .before .before .before .before .before .before .before .before .before .before .before .before .pre .1 .0 .trains-most, c .before .before .before .before .before .loop .inv)
+
+slice-aggregate-round-5 : tie.Need-slice-aggregate-round-5 Inv-loop μ-loop
+slice-aggregate-round-5 c = simp length-take (omega (arith, c .before .before .before .before .before .before .before .before .before .before .before .before .before .before .before .before .before .before .before .before .before .before .before .pre .1 .0 .trains-most, c .before .before .before .before .before .before .loop .inv))
 
 round-requires : tie.Need-round-requires Inv-loop μ-loop
 round-requires c κs =
-    let b = c .before .before .before .before .before .before .before .before .before .before .before .before .before .before .before .before .before .before .before in
+    let b = c .before .before .before .before .before .before .before .before .before .before .before .before .before .before .before .before .before .before .before .before .before .before .before .before .before .before in
     let p = b .pre .1 .0 in
     let room = b .pre .1 .1 .0 in
-    let i = c .before .before .before .before .before .before .before .loop .inv in
+    let i = c .before .before .before .before .before .before .before .before .before .loop .inv in
     let m = mul-le-mul (p .orders-most) (p .trains-most) in
-    let more = c .before .before .before .before .before .before .loop-test .taken in (
+    let more = c .before .before .before .before .before .before .before .before .loop-test .taken in (
       b .pre .0,
       (
         p,
-        record {
-          train-match = simp length-take (omega (arith, p .orders-most, i));
-          departure-match = simp length-take (omega (arith, p .trains-most, i));
-          arrival-match = simp length-take (omega (arith, p .trains-most, i));
-          pairs-room = omega (arith, room .pairs-room, i, i .0 .pairs-few, more);
-          trains-room = omega (arith, room .trains-room, i);
-          times-room = omega (arith, room .times-room, i);
-          pairs-few = omega (arith, i .0 .pairs-few, more, m);
-          rounds-few = omega (arith, i .0 .rounds-few, more, m);
-          latest-long = i .0 .long;
-          latest-most = i .0 .most;
-        },
+        (
+          record {
+            train-match = simp length-take (omega (arith, p .orders-most, i));
+            departure-match = simp length-take (omega (arith, p .trains-most, i));
+            arrival-match = simp length-take (omega (arith, p .trains-most, i));
+            pairs-room = omega (arith, room .pairs-room, i, i .0 .pairs-few, more);
+            trains-room = omega (arith, room .trains-room, i);
+            times-room = omega (arith, room .times-room, i);
+            pairs-few = omega (arith, i .0 .pairs-few, more, m);
+            rounds-few = omega (arith, i .0 .rounds-few, more, m);
+            latest-long = i .0 .long;
+            latest-most = i .0 .most;
+          },
+          ranked-front (c .before .before .before .before .before .before .before .before .before .before .before .before .rank-orders .ensures) _ _,
+        ),
       ),
     )
 
 same-length : tie.Need-same-length Inv-loop μ-loop
-same-length c = omega (arith, c .before .before .before .before .before .before .before .before .before .before .before .round .kept, c .before .before .before .before .before .before .before .before .before .before .before .before .before .before .before .before .before .before .before .loop .inv)
+same-length c = omega (arith, c .before .before .before .before .before .before .before .before .before .before .before .round .kept, c .before .before .before .before .before .before .before .before .before .before .before .before .before .before .before .before .before .before .before .before .before .loop .inv)
 
 same-length-2 : tie.Need-same-length-2 Inv-loop μ-loop
-same-length-2 c = omega (arith, c .before .before .before .before .before .before .before .before .before .before .before .round .kept, c .before .before .before .before .before .before .before .before .before .before .before .before .before .before .before .before .before .before .before .loop .inv)
+same-length-2 c = omega (arith, c .before .before .before .before .before .before .before .before .before .before .before .round .kept, c .before .before .before .before .before .before .before .before .before .before .before .before .before .before .before .before .before .before .before .before .before .loop .inv)
 
 same-length-3 : tie.Need-same-length-3 Inv-loop μ-loop
-same-length-3 c = omega (arith, c .before .before .before .before .before .before .before .before .before .before .before .round .kept, c .before .before .before .before .before .before .before .before .before .before .before .before .before .before .before .before .before .before .before .loop .inv)
+same-length-3 c = omega (arith, c .before .before .before .before .before .before .before .before .before .before .before .round .kept, c .before .before .before .before .before .before .before .before .before .before .before .before .before .before .before .before .before .before .before .before .before .loop .inv)
 
 returns : tie.Need-returns Inv-loop μ-loop
 returns c =
-    let b = c .before .before .before .before .before .before .before .before .before .before .before .before .before .before .before .before .before .before .before .before .before .before .before .before .before .before .before .before .before .before .before in
+    let b = c .before .before .before .before .before .before .before .before .before .before .before .before .before .before .before .before .before .before .before .before .before .before .before .before .before .before .before .before .before .before .before .before .before .before .before .before .before .before in
     let a = b .args in
-    let l = c .before .before .before .before .before .before .before .before .before .before .before .before .before .before .before .before .before .before .before .loop in
+    let l = c .before .before .before .before .before .before .before .before .before .before .before .before .before .before .before .before .before .before .before .before .before .loop in
     let r = c .before .before .before .before .before .before .before .before .before .before .before .round in
     let T : TimeColumns = record { by-timetable = a .by-timetable; gap = a .gap; from = a .from .now; to = a .to .now; running = a .running .now; departure = a .fixed-departure .now; arrival = a .fixed-arrival .now } in
     let S : Sheet = sheetIn (a .capacity .now) (a .release .now) (a .due .now) (a .weight .now) (formIn T) in
-    let P′ = r .last .1 .1 .1 .1 .1 .1 .1 .1 .1 .1 .1 .1 .1 .1 .1 .0 in
-    let A′ = r .last .1 .1 .1 .1 .1 .1 .1 .1 .1 .1 .1 .1 .1 .1 .1 .1 .0 in
-    let T′ = r .last .1 .1 .1 .1 .1 .1 .1 .1 .1 .1 .1 .1 .1 .1 .1 .1 .1 .0 in
-    ends-none S (a .pairs .now) (a .train-of-order .now) (a .times .now) (r .result) P′ A′ T′ (l .k + 1) (omega (arith, c .before .before .before .before .before .before .before .before .before .before .before .before .before .before .before .before .before .before .loop-test .taken))
+    let P′ = r .last .1 .1 .1 .1 .1 .1 .1 .1 .1 .1 .1 .1 .1 .1 .1 .1 .1 .0 in
+    let A′ = r .last .1 .1 .1 .1 .1 .1 .1 .1 .1 .1 .1 .1 .1 .1 .1 .1 .1 .1 .0 in
+    let T′ = r .last .1 .1 .1 .1 .1 .1 .1 .1 .1 .1 .1 .1 .1 .1 .1 .1 .1 .1 .1 .0 in
+    ends-none S (a .pairs .now) (a .train-of-order .now) (a .times .now) (r .result) P′ A′ T′ (l .k + 1) (omega (arith, c .before .before .before .before .before .before .before .before .before .before .before .before .before .before .before .before .before .before .before .before .loop-test .taken))
     (next-shows S (a .pairs .now) (a .train-of-order .now) (a .times .now) (l .s) (l .pairs) (l .train-of-order) (l .times) (r .result) P′ A′ T′ (l .k) (l .inv .0 .shows)
     (λ x h. r .ensures .0 x (a .pairs .now) (a .train-of-order .now) (a .times .now) h))
     (c .before .before .if1 .taken) (c .if2 .taken)
 
 same-length-4 : tie.Need-same-length-4 Inv-loop μ-loop
-same-length-4 c = omega (arith, c .before .before .before .before .before .before .before .before .before .before .before .round .kept, c .before .before .before .before .before .before .before .before .before .before .before .before .before .before .before .before .before .before .before .loop .inv)
+same-length-4 c = omega (arith, c .before .before .before .before .before .before .before .before .before .before .before .round .kept, c .before .before .before .before .before .before .before .before .before .before .before .before .before .before .before .before .before .before .before .before .before .loop .inv)
 
 same-length-5 : tie.Need-same-length-5 Inv-loop μ-loop
-same-length-5 c = omega (arith, c .before .before .before .before .before .before .before .before .before .before .before .round .kept, c .before .before .before .before .before .before .before .before .before .before .before .before .before .before .before .before .before .before .before .loop .inv)
+same-length-5 c = omega (arith, c .before .before .before .before .before .before .before .before .before .before .before .round .kept, c .before .before .before .before .before .before .before .before .before .before .before .before .before .before .before .before .before .before .before .before .before .loop .inv)
 
 same-length-6 : tie.Need-same-length-6 Inv-loop μ-loop
-same-length-6 c = omega (arith, c .before .before .before .before .before .before .before .before .before .before .before .round .kept, c .before .before .before .before .before .before .before .before .before .before .before .before .before .before .before .before .before .before .before .loop .inv)
+same-length-6 c = omega (arith, c .before .before .before .before .before .before .before .before .before .before .before .round .kept, c .before .before .before .before .before .before .before .before .before .before .before .before .before .before .before .before .before .before .before .before .before .loop .inv)
 
 returns-2 : tie.Need-returns-2 Inv-loop μ-loop
 returns-2 c =
-    let b = c .before .before .before .before .before .before .before .before .before .before .before .before .before .before .before .before .before .before .before .before .before .before .before .before .before .before .before .before .before .before .before in
+    let b = c .before .before .before .before .before .before .before .before .before .before .before .before .before .before .before .before .before .before .before .before .before .before .before .before .before .before .before .before .before .before .before .before .before .before .before .before .before .before in
     let a = b .args in
-    let l = c .before .before .before .before .before .before .before .before .before .before .before .before .before .before .before .before .before .before .before .loop in
+    let l = c .before .before .before .before .before .before .before .before .before .before .before .before .before .before .before .before .before .before .before .before .before .loop in
     let r = c .before .before .before .before .before .before .before .before .before .before .before .round in
     let T : TimeColumns = record { by-timetable = a .by-timetable; gap = a .gap; from = a .from .now; to = a .to .now; running = a .running .now; departure = a .fixed-departure .now; arrival = a .fixed-arrival .now } in
     let S : Sheet = sheetIn (a .capacity .now) (a .release .now) (a .due .now) (a .weight .now) (formIn T) in
-    let P′ = r .last .1 .1 .1 .1 .1 .1 .1 .1 .1 .1 .1 .1 .1 .1 .1 .0 in
-    let A′ = r .last .1 .1 .1 .1 .1 .1 .1 .1 .1 .1 .1 .1 .1 .1 .1 .1 .0 in
-    let T′ = r .last .1 .1 .1 .1 .1 .1 .1 .1 .1 .1 .1 .1 .1 .1 .1 .1 .1 .0 in
-    ends-planned S (a .pairs .now) (a .train-of-order .now) (a .times .now) (r .result) P′ A′ T′ (l .k + 1) (omega (arith, c .before .before .before .before .before .before .before .before .before .before .before .before .before .before .before .before .before .before .loop-test .taken))
+    let P′ = r .last .1 .1 .1 .1 .1 .1 .1 .1 .1 .1 .1 .1 .1 .1 .1 .1 .1 .0 in
+    let A′ = r .last .1 .1 .1 .1 .1 .1 .1 .1 .1 .1 .1 .1 .1 .1 .1 .1 .1 .1 .0 in
+    let T′ = r .last .1 .1 .1 .1 .1 .1 .1 .1 .1 .1 .1 .1 .1 .1 .1 .1 .1 .1 .1 .0 in
+    ends-planned S (a .pairs .now) (a .train-of-order .now) (a .times .now) (r .result) P′ A′ T′ (l .k + 1) (omega (arith, c .before .before .before .before .before .before .before .before .before .before .before .before .before .before .before .before .before .before .before .before .loop-test .taken))
     (next-shows S (a .pairs .now) (a .train-of-order .now) (a .times .now) (l .s) (l .pairs) (l .train-of-order) (l .times) (r .result) P′ A′ T′ (l .k) (l .inv .0 .shows)
     (λ x h. r .ensures .0 x (a .pairs .now) (a .train-of-order .now) (a .times .now) h))
     (c .before .before .if1 .taken) (c .if2 .left)
 
 add-k : tie.Need-add-k Inv-loop μ-loop
-add-k c = omega (arith, c .before .before .before .before .before .before .before .before .before .before .before .before .before .before .before .before .loop-test .taken, mul-le-mul (c .before .before .before .before .before .before .before .before .before .before .before .before .before .before .before .before .before .before .before .before .before .before .before .before .before .before .before .before .before .pre .1 .0 .orders-most) (c .before .before .before .before .before .before .before .before .before .before .before .before .before .before .before .before .before .before .before .before .before .before .before .before .before .before .before .before .before .pre .1 .0 .trains-most))
+add-k c = omega (arith, c .before .before .before .before .before .before .before .before .before .before .before .before .before .before .before .before .before .before .loop-test .taken, mul-le-mul (c .before .before .before .before .before .before .before .before .before .before .before .before .before .before .before .before .before .before .before .before .before .before .before .before .before .before .before .before .before .before .before .before .before .before .before .before .pre .1 .0 .orders-most) (c .before .before .before .before .before .before .before .before .before .before .before .before .before .before .before .before .before .before .before .before .before .before .before .before .before .before .before .before .before .before .before .before .before .before .before .before .pre .1 .0 .trains-most))
 
 loop-less : tie.Need-loop-less Inv-loop μ-loop
-loop-less c = omega (arith, c .before .before .before .before .before .before .before .before .before .before .before .before .before .before .before .before .loop-test .taken)
+loop-less c = omega (arith, c .before .before .before .before .before .before .before .before .before .before .before .before .before .before .before .before .before .before .loop-test .taken)
 
 loop-again : tie.Need-loop-again Inv-loop μ-loop
 loop-again c =
-    let b = c .before .before .before .before .before .before .before .before .before .before .before .before .before .before .before .before .before .before .before .before .before .before .before .before .before .before .before .before .before in
+    let b = c .before .before .before .before .before .before .before .before .before .before .before .before .before .before .before .before .before .before .before .before .before .before .before .before .before .before .before .before .before .before .before .before .before .before .before .before in
     let a = b .args in
     let p = b .pre .1 .0 in
-    let l = c .before .before .before .before .before .before .before .before .before .before .before .before .before .before .before .before .before .loop in
+    let l = c .before .before .before .before .before .before .before .before .before .before .before .before .before .before .before .before .before .before .before .loop in
     let r = c .before .before .before .before .before .before .before .before .before .round in
     let T : TimeColumns = record { by-timetable = a .by-timetable; gap = a .gap; from = a .from .now; to = a .to .now; running = a .running .now; departure = a .fixed-departure .now; arrival = a .fixed-arrival .now } in
     let S : Sheet = sheetIn (a .capacity .now) (a .release .now) (a .due .now) (a .weight .now) (formIn T) in
-    let P′ = r .last .1 .1 .1 .1 .1 .1 .1 .1 .1 .1 .1 .1 .1 .1 .1 .0 in
-    let A′ = r .last .1 .1 .1 .1 .1 .1 .1 .1 .1 .1 .1 .1 .1 .1 .1 .1 .0 in
-    let T′ = r .last .1 .1 .1 .1 .1 .1 .1 .1 .1 .1 .1 .1 .1 .1 .1 .1 .1 .0 in
+    let P′ = r .last .1 .1 .1 .1 .1 .1 .1 .1 .1 .1 .1 .1 .1 .1 .1 .1 .1 .0 in
+    let A′ = r .last .1 .1 .1 .1 .1 .1 .1 .1 .1 .1 .1 .1 .1 .1 .1 .1 .1 .1 .0 in
+    let T′ = r .last .1 .1 .1 .1 .1 .1 .1 .1 .1 .1 .1 .1 .1 .1 .1 .1 .1 .1 .1 .0 in
     let low = r .ensures .1 in
     let k = r .kept in (
       record {
@@ -174,10 +205,10 @@ loop-again c =
         long = low .2;
         most = low .3;
       },
-      omega (arith, c .before .before .before .before .before .before .before .before .before .before .before .before .before .before .before .before .loop-test .taken),
-      simp (length-append, length-drop) (omega (arith, simp length-take at (r .kept .1 .1 .1 .1 .1 .1 .1 .1 .1 .1 .1 .1 .0), l .inv .2, p .orders-most)),
-      simp (length-append, length-drop) (omega (arith, simp length-take at (r .kept .1 .1 .1 .1 .1 .1 .1 .1 .1 .1 .1 .1 .1 .0), l .inv .3, p .trains-most)),
-      simp (length-append, length-drop) (omega (arith, simp length-take at (r .kept .1 .1 .1 .1 .1 .1 .1 .1 .1 .1 .1 .1 .1 .1 .0), l .inv .4, p .trains-most)),
+      omega (arith, c .before .before .before .before .before .before .before .before .before .before .before .before .before .before .before .before .before .before .loop-test .taken),
+      simp (length-append, length-drop) (omega (arith, simp length-take at (r .kept .1 .1 .1 .1 .1 .1 .1 .1 .1 .1 .1 .1 .1 .1 .0), l .inv .2, p .orders-most)),
+      simp (length-append, length-drop) (omega (arith, simp length-take at (r .kept .1 .1 .1 .1 .1 .1 .1 .1 .1 .1 .1 .1 .1 .1 .1 .0), l .inv .3, p .trains-most)),
+      simp (length-append, length-drop) (omega (arith, simp length-take at (r .kept .1 .1 .1 .1 .1 .1 .1 .1 .1 .1 .1 .1 .1 .1 .1 .1 .0), l .inv .4, p .trains-most)),
       omega (arith, k, l .inv),
       omega (arith, k, l .inv),
       omega (arith, k, l .inv),
@@ -194,7 +225,7 @@ same-length-9 c = omega (arith, c .before .loop .inv)
 
 returns-3 : tie.Need-returns-3 Inv-loop μ-loop
 returns-3 c =
-    let b = c .before .before .before .before .before .before .before .before .before .before .before .before .before in
+    let b = c .before .before .before .before .before .before .before .before .before .before .before .before .before .before .before .before .before .before in
     let a = b .args in
     let l = c .before .loop in
     let T : TimeColumns = record { by-timetable = a .by-timetable; gap = a .gap; from = a .from .now; to = a .to .now; running = a .running .now; departure = a .fixed-departure .now; arrival = a .fixed-arrival .now } in
@@ -210,14 +241,23 @@ all-rounds-spec =
     Inv-loop
     μ-loop
     mul-most
+    array-borrow-prefix-ranks
+    slice-aggregate-rank-orders
+    array-borrow-prefix-places
+    slice-aggregate-rank-orders-2
+    rank-orders-requires
     cast-latest
     loop-holds
-    array-borrow-prefix-train
+    array-share-prefix-ranks
     slice-aggregate-round
-    array-borrow-prefix-departure
+    array-share-prefix-places
     slice-aggregate-round-2
-    array-borrow-prefix-arrival
+    array-borrow-prefix-train
     slice-aggregate-round-3
+    array-borrow-prefix-departure
+    slice-aggregate-round-4
+    array-borrow-prefix-arrival
+    slice-aggregate-round-5
     round-requires
     same-length
     same-length-2
