@@ -2,7 +2,7 @@
 use mathlib.Core.Path.{_≡_}
 use mathlib.Core.Bool.{Bool, true, false}
 use mathlib.Core.List.{List}
-use Prim.Native.Nat.{ℕ, _*_}
+use Prim.Native.Nat.{ℕ, _*_, _≤_, _<_}
 use lib.Dec.{eqb}
 use lib.ListN.{length, getD, take}
 use Rattle.model.specs.Sheet.{Sheet}
@@ -17,6 +17,7 @@ use Rattle.planner.specs.Planning.{PlanningCall}
 use Rattle.printer.specs.Lines.{plan-bytes, refusal-line}
 use Rattle.printer.specs.Writing.{Prints}
 use Rattle.printer.specs.declared.Printed.{Printed}
+use Rattle.printer.specs.declared.Printed.the-variants.{Bytes}
 
 -- what is printed of a planning call's reply and the areas that it left: the listed pairs, n trains and q times, which stand at their fronts
 unfoldable pub reply-bytes : (text : List ℕ) (by-timetable : Bool) (orders trains : ℕ) → Reply → Areas → List ℕ
@@ -44,9 +45,15 @@ Printing reading.Read text by-timetable s found r after = PlanPrinted text by-ti
 abbrev pub timetable-form : List ℕ → Bool
 timetable-form text = eqb (getD text 0 0) 88
 
--- what is printed of a text into a buffer
+-- all bytes are printed: they were not too many for the buffer
+pub record Whole (r : Printed) : Type 0 where
+  pub count : ℕ
+  pub bytes : r ≡ Bytes count
+
+-- what is printed of a text into a buffer; one of 163,840 bytes is always long enough (for texts of fewer than 1,000,000,000 bytes)
 pub record TextPrinted (text found : List ℕ) (r : Printed) (after : List ℕ) : Type 0 where
   pub by-timetable : timetable-form text ≡ true →
       Printing (timetableReading text .answer) text true (timetableSheet (timetableReading text .sheet)) found r after
   pub by-windows : timetable-form text ≡ false →
       Printing (windowReading text .answer) text false (windowSheet (windowReading text .sheet)) found r after
+  pub whole : length text < 1000000000 → 163840 ≤ length found → Whole r

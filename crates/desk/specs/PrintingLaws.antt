@@ -22,6 +22,7 @@ use Rattle.printer.specs.Writing.{Prints}
 use Rattle.printer.specs.declared.Printed.{Printed}
 use Rattle.printer.specs.declared.Printed.the-variants.{Bytes, TooShort}
 use Rattle.desk.specs.Printing.{reply-bytes, PlanPrinted, Printing, TextPrinted, timetable-form}
+use Rattle.desk.specs.FitLaws.{timetable-whole, windows-whole}
 
 prints-within : (bytes found : List ℕ) (r : Printed) (after : List ℕ) → Prints bytes found r after → (n : ℕ) → r ≡ Bytes n → n ≤ length found
 prints-within bytes found r after p n e = go (leb (length bytes) (length found)) refl (sym e ∙ p .answer)
@@ -42,13 +43,6 @@ text-within text found r after p = go (timetable-form text) refl
     go : (t : Bool) → timetable-form text ≡ t → (n : ℕ) → r ≡ Bytes n → n ≤ length found
     go true e = printing-within (timetableReading text .answer) text true (timetableSheet (timetableReading text .sheet)) found r after (p .by-timetable e)
     go false e = printing-within (windowReading text .answer) text false (windowSheet (windowReading text .sheet)) found r after (p .by-windows e)
-
--- the reply and the areas are those of document 01's rounds, as the planning call's equality says
-pub plan-equal :
-    (text : List ℕ) (by-timetable : Bool) (s : Sheet) (found : List ℕ) (r : Printed) (after : List ℕ) (p : PlanPrinted text by-timetable s found r after)
-    → Prints (reply-bytes text by-timetable (s .orders) (s .trains) (reply (answer-to s (p .lent))) (areas-after s (answer-to s (p .lent)) (p .lent)))
-    found r after
-plan-equal text by-timetable s found r after p = rw (← p .call .equal .replied, ← p .call .equal .areas-left) (p .prints)
 
 -- ---- what each call shows
 
@@ -78,13 +72,21 @@ module _ (text found : List ℕ) (r : Printed) (after : List ℕ) where
       timetable-form text ≡ true
       → Printing (timetableReading text .answer) text true (timetableSheet (timetableReading text .sheet)) found r after → TextPrinted text found r after
   printed-by-timetable e h =
-      record { by-timetable = λ f. h; by-windows = λ f. absurd (let z : _≡_ {A = ℕ} 0 1 = cc in omega arith) }
+      record {
+        by-timetable = λ f. h;
+        by-windows = λ f. absurd (let z : _≡_ {A = ℕ} 0 1 = cc in omega arith);
+        whole = λ small room. timetable-whole text found r after small room h;
+      }
 
   pub printed-by-windows :
       timetable-form text ≡ false
       → Printing (windowReading text .answer) text false (windowSheet (windowReading text .sheet)) found r after → TextPrinted text found r after
   printed-by-windows e h =
-      record { by-timetable = λ f. absurd (let z : _≡_ {A = ℕ} 0 1 = cc in omega arith); by-windows = λ f. h }
+      record {
+        by-timetable = λ f. absurd (let z : _≡_ {A = ℕ} 0 1 = cc in omega arith);
+        by-windows = λ f. h;
+        whole = λ small room. windows-whole text found r after small room h;
+      }
 
 -- an empty text has no first byte `X`
 pub empty-form : (text : List ℕ) → length text ≡ 0 → timetable-form text ≡ false

@@ -4,10 +4,10 @@ use mathlib.Core.List.{List}
 use Prim.Native.Nat.{ℕ, suc, _+_, _*_, _-_, _≤_, _<_}
 use native.Mathlib.Omega.{arith}
 use native.Mathlib.Nat.{mul-le-mul-left, sub-zero}
-use lib.IntN.{ℤ, pos, subℕ, _-ℤ_, _*ℤ_}
+use lib.IntN.{ℤ, pos, subℕ, _-ℤ_, _*ℤ_, natAbs}
 use lib.Signed.{_≤ℤ_, _<ℤ_}
 use Rattle.numbers.specs.Counting.{at, greatest}
-use Rattle.numbers.specs.SignedLaws.{sub-le, sub-less, sub-pos, pos-sub, mul-sub, greatest-above, greatest-one}
+use Rattle.numbers.specs.SignedLaws.{sub-size, sub-le, sub-less, sub-pos, pos-sub, mul-sub, greatest-above, greatest-one}
 use Rattle.model.specs.Sheet.{Sheet}
 use Rattle.model.specs.Lateness.{lateness, greatest-lateness, worst}
 
@@ -26,6 +26,10 @@ lateness-rises w d F F′ h =
 pub lateness-below : (w F d top : ℕ) → w * F < top → lateness w F d <ℤ pos top
 lateness-below w F d top h =
     rw (lateness-as-difference w F d) (rw (sub-pos top 0 (omega arith), sub-zero) at (sub-less (w * F) (w * d) top 0 (omega arith)))
+
+-- it is no greater in size than w × F and w × d
+pub lateness-size : (w F d top : ℕ) → w * F ≤ top → w * d ≤ top → natAbs (lateness w F d) ≤ top
+lateness-size w F d top h k = rw (lateness-as-difference w F d) (sub-size (w * F) (w * d) top h k)
 
 module _ (s : Sheet) (train : List ℕ) (F : ℕ → ℕ) where
   -- no order is later than the worst

@@ -7,7 +7,7 @@ use native.Mathlib.Omega.{arith}
 use native.Mathlib.Nat.{mul-le-mul-left, mul-lt-mul-of-pos-left, zero-mul}
 use native.Mathlib.Nat as N
 use lib.Dec.{T, leb, ltb, leb→le, le→leb, ltb→lt, lt→ltb}
-use lib.IntN.{ℤ, pos, negsuc, negℤ, _-ℤ_, _*ℤ_, subℕ}
+use lib.IntN.{ℤ, pos, negsuc, natAbs, negℤ, _-ℤ_, _*ℤ_, subℕ}
 use lib.Signed.{ltZ, leZ, _≤ℤ_, _<ℤ_, leZ-yes, ltZ-yes, ≤ℤ-refl, <ℤ-≤ℤ-trans, clashℤ}
 use borrow.Author.Tests.{lt-ltb, le-ltb}
 use Rattle.numbers.specs.Counting.{larger, greatest}
@@ -96,6 +96,14 @@ sub-neg a b h = rw (lt-ltb a b h)
 
 pub sub-pos : (a b : ℕ) → b ≤ a → subℕ a b ≡ pos (a - b)
 sub-pos a b h = rw (le-ltb a b h)
+
+-- a difference is no greater in size than its parts
+pub sub-size : (a b top : ℕ) → a ≤ top → b ≤ top → natAbs (subℕ a b) ≤ top
+sub-size a b top u v = go (decided (decides-lt a b))
+  where
+    go : (a < b) ⊎ (¬ (a < b)) → natAbs (subℕ a b) ≤ top
+    go (inl l) = rw (sub-neg a b l) (omega arith)
+    go (inr l) = rw (sub-pos a b (omega arith)) (omega arith)
 
 -- differences stand as the sums that bring their parts to one side
 module _ (a b c d : ℕ) where

@@ -4,7 +4,7 @@ use libc::STDOUT_FILENO;
 use printer::Printed;
 
 fn report(text: &[u8]) {
-    let mut out: [u8; 131072] = [0; 131072];
+    let mut out: [u8; 163840] = [0; 163840];
     let printed = desk::print_text(text, &mut out);
     let Printed::Bytes(length) = printed else {
         return;

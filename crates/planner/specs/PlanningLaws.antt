@@ -50,7 +50,7 @@ pair-found (p ∷ ps) (suc k) l =
     record { last-at = rw e (h .last-at); worst-at = rw f (h .worst-at) }
 
 module _ (departure arrival : List ℕ) where
-  time-numbers-length : (q : ℕ) → length (time-numbers departure arrival q) ≡ 2 * q
+  pub time-numbers-length : (q : ℕ) → length (time-numbers departure arrival q) ≡ 2 * q
   unfolding time-numbers
   time-numbers-length zero = refl
   time-numbers-length (suc q) =
@@ -136,7 +136,7 @@ module _ (s : Sheet) (ps : List Pair) (x : Plan) (c : ℕ) (found : Areas) where
 -- ---- from the answer back to the rounds
 
 module _ (s : Sheet) (found : Areas) where
-  accepted : {ps : List Pair} {x : Plan} {c : ℕ} → answer-to s found ≡ planned ps x c → Admitted s × (plan s ≡ planned ps x c)
+  pub accepted : {ps : List Pair} {x : Plan} {c : ℕ} → answer-to s found ≡ planned ps x c → Admitted s × (plan s ≡ planned ps x c)
   unfolding answer-to answer-after
   accepted {ps} {x} {c} e = go (admission s) refl e
     where

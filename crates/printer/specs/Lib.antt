@@ -5,4 +5,5 @@ pub mod LineLaws
 pub mod Writing
 pub mod WritingLaws
 pub mod SizeLaws
+pub mod LengthLaws
 pub mod CaseLaws

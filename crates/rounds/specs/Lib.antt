@@ -20,3 +20,4 @@ pub mod RecordLaws
 pub mod OneRoundLaws
 pub mod InvariantLaws
 pub mod AnswerLaws
+pub mod SizeLaws

@@ -35,6 +35,7 @@ module _ (q : ℕ) (Allowed : (ℕ → ℕ) → Type 0) (arrives : (ℕ → ℕ)
   pub record TimingRule (time : (released : ℕ → ℕ) → Timed) : Type 0 where
     pub departures-rise : (S : ℕ → ℕ) → Allowed S → (i k : ℕ) → 1 ≤ i → i ≤ k → k ≤ q → S i ≤ S k
     pub arrivals-rise : (S : ℕ → ℕ) → Allowed S → (i k : ℕ) → 1 ≤ i → i ≤ k → k ≤ q → arrives S i ≤ arrives S k
+    pub departures-bounded : (S : ℕ → ℕ) → Allowed S → (i : ℕ) → 1 ≤ i → i ≤ q → S i ≤ 100000
     pub arrivals-bounded : (S : ℕ → ℕ) → Allowed S → (i : ℕ) → 1 ≤ i → i ≤ q → arrives S i ≤ 160000
     pub outcome : (released : ℕ → ℕ) → Outcome released (time released)
 
@@ -74,6 +75,7 @@ module _ (w : Windows) (q : ℕ) (few : q ≤ 32) (r : WindowsInRange w q) (o : 
       record {
         departures-rise = λ S a i k p l m. climbs S q i (λ j u v. step S a j (omega arith) v) k l m;
         arrivals-rise = λ S a i k p l m. climbs (arrival (windows w) S) q i (λ j u v. arrival-step (w .gap) (w .running) S j (omega arith)) k l m;
+        departures-bounded = λ S a i p l. early S a i p l .0;
         arrivals-bounded = λ S a i p l. omega (
           arith,
           arrival-bound (w .gap) (w .running) S 100000 10000 i (λ k u v. early S a k u (omega arith)),
@@ -118,6 +120,7 @@ module _ (t : Timetable) (q : ℕ) (r : (i : ℕ) → 1 ≤ i → i ≤ q → Ti
           climbs (t .departure) q i (λ j u v. omega (arith, o .departures j (omega arith) (omega arith))) k l m,
         );
         arrivals-rise = λ S a i k p l m. climbs (t .arrival) q i (λ j u v. omega (arith, o .arrivals j (omega arith) (omega arith))) k l m;
+        departures-bounded = λ S a i p l. omega (arith, a .fixed i p l, r i p l .departure .1);
         arrivals-bounded = λ S a i p l. r i p l .arrival .1;
         outcome = timetable-outcome;
       }

@@ -22,5 +22,6 @@ pub mod AdmissionLaws
 pub mod OrderNames
 pub mod NameLaws
 pub mod RefusedLaws
+pub mod ReturnedLaws
 pub mod TextCases
 pub mod TextCaseLaws

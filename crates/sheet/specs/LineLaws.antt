@@ -1,4 +1,4 @@
--- A line that is read ends after it starts, and an order's name lies in the text. Assumes nothing.
+-- A line that is read ends after it starts, and an order's name lies in the text; one that is not is refused with its number. Assumes nothing.
 use mathlib.Core.Path.{_≡_, refl, subst}
 use mathlib.Core.Bool.{Bool, true, false, cond}
 use mathlib.Core.List.{List}
@@ -8,6 +8,7 @@ use lib.ListN.{length, drop}
 use lib.Dec.{eqb}
 use Rattle.numbers.specs.Counting.{at}
 use Rattle.model.specs.Limits.{Inside, inside, _–_}
+use Rattle.model.specs.declared.Refusal.the-variants.{Malformed}
 use Rattle.sheet.specs.Fields.{comma, lineEnds, runOf}
 use Rattle.sheet.specs.Numbers.{isNumber, numberAt, numberField}
 use Rattle.sheet.specs.Names.{nameField}
@@ -72,52 +73,53 @@ Named text (Train t) = Unit {0}
 Named text (FixedTrain t) = Unit {0}
 Named text (Order o) = NameAt text (o .«name_start») (o .«name_length»)
 
-abbrev pub Sound : List ℕ → ℕ → LineAt → Type 0
-Sound text p (Read l next) = (p < next) × Named text l
-Sound text p (Refused r) = Unit {0}
+-- what is read at position p on line number `line`; a line that is not read is refused with 1 and its number
+abbrev pub Sound : List ℕ → (p line : ℕ) → LineAt → Type 0
+Sound text p line (Read l next) = (p < next) × Named text l
+Sound text p line (Refused r) = r ≡ Malformed line
 
 module _ (text : List ℕ) (p line : ℕ) where
   -- a number field that stands at or after p
-  after-number : (q : ℕ) → p ≤ q → (rest : ℕ → ℕ → LineAt) → ((value next : ℕ) → p ≤ next → Sound text p (rest value next))
-      → Sound text p (number (numberField text q) line rest)
+  after-number : (q : ℕ) → p ≤ q → (rest : ℕ → ℕ → LineAt) → ((value next : ℕ) → p ≤ next → Sound text p line (rest value next))
+      → Sound text p line (number (numberField text q) line rest)
   after-number q l rest f = go (numberField text q) (number-past text q)
     where
-      go : (x : Field) → Past q x → Sound text p (number x line rest)
+      go : (x : Field) → Past q x → Sound text p line (number x line rest)
       go (F.Number value next) h = f value next (omega arith)
-      go F.Other h = tt
+      go F.Other h = refl
 
-  after-name : (q : ℕ) → p ≤ q → (rest : ℕ → ℕ → LineAt) → ((start long : ℕ) → p ≤ start + long → NameAt text start long → Sound text p (rest start long))
-      → Sound text p (name (nameField text q) line rest)
+  after-name : (q : ℕ) → p ≤ q → (rest : ℕ → ℕ → LineAt) → ((start long : ℕ) → p ≤ start + long → NameAt text start long → Sound text p line (rest start long))
+      → Sound text p line (name (nameField text q) line rest)
   after-name q l rest f = go (nameField text q) (name-inside text q)
     where
-      go : (x : NameField) → NameInside text q x → Sound text p (name x line rest)
+      go : (x : NameField) → NameInside text q x → Sound text p line (name x line rest)
       go (N.Name start long) h = f start long (omega arith) (h .1)
-      go N.Other h = tt
+      go N.Other h = refl
 
-  at-end : (q : ℕ) → p ≤ q → (l : Line) → Named text l → Sound text p (ended text q line l)
+  at-end : (q : ℕ) → p ≤ q → (l : Line) → Named text l → Sound text p line (ended text q line l)
   unfolding ended
-  at-end q k l h = by-test (Sound text p) (lineEnds text q) (λ e. (omega arith, h)) (λ e. tt)
+  at-end q k l h = by-test (Sound text p line) (lineEnds text q) (λ e. (omega arith, h)) (λ e. refl)
 
   module _ (q : ℕ) (l : p ≤ q) where
-    gap-sound : Sound text p (gapLine text q line)
+    gap-sound : Sound text p line (gapLine text q line)
     unfolding gapLine
     gap-sound = after-number q l _ (λ gap next k. at-end next k _ tt)
 
-    window-sound : Sound text p (windowLine text q line)
+    window-sound : Sound text p line (windowLine text q line)
     unfolding windowLine
     window-sound = after-number q l _ (λ from second m. after-number second m _ (λ to next k. at-end next k _ tt))
 
-    train-sound : Sound text p (trainLine text q line)
+    train-sound : Sound text p line (trainLine text q line)
     unfolding trainLine
     train-sound = after-number q l _ (λ capacity second m. after-number second m _ (λ running next k. at-end next k _ tt))
 
-    fixed-train-sound : Sound text p (fixedTrainLine text q line)
+    fixed-train-sound : Sound text p line (fixedTrainLine text q line)
     unfolding fixedTrainLine
     fixed-train-sound =
         after-number q l _ (λ capacity second m.
         after-number second m _ (λ departure third o. after-number third o _ (λ arrival next k. at-end next k _ tt)))
 
-    order-sound : Sound text p (orderLine text q line)
+    order-sound : Sound text p line (orderLine text q line)
     unfolding orderLine
     order-sound =
         after-name q l _ (λ start long m named.
@@ -125,11 +127,11 @@ module _ (text : List ℕ) (p line : ℕ) where
         after-number third o _ (λ due fourth r. after-number fourth r _ (λ weight next k. at-end next k _ named))))
 
 -- A LINE THAT IS READ ENDS AFTER IT STARTS, AND AN ORDER'S NAME LIES IN THE TEXT
-pub line-sound : (text : List ℕ) (p line : ℕ) → Sound text p (lineAt text p line)
+pub line-sound : (text : List ℕ) (p line : ℕ) → Sound text p line (lineAt text p line)
 unfolding lineAt
 line-sound text p line =
-    by-test (Sound text p) (eqb (at text p) G) (λ e. gap-sound text p line (p + 1) (omega arith)) (λ e.
-    by-test (Sound text p) (eqb (at text p) W) (λ e. window-sound text p line (p + 1) (omega arith)) (λ e.
-    by-test (Sound text p) (eqb (at text p) T) (λ e. train-sound text p line (p + 1) (omega arith)) (λ e.
-    by-test (Sound text p) (eqb (at text p) X) (λ e. fixed-train-sound text p line (p + 1) (omega arith)) (λ e.
-    by-test (Sound text p) (eqb (at text p) O) (λ e. order-sound text p line (p + 1) (omega arith)) (λ e. tt)))))
+    by-test (Sound text p line) (eqb (at text p) G) (λ e. gap-sound text p line (p + 1) (omega arith)) (λ e.
+    by-test (Sound text p line) (eqb (at text p) W) (λ e. window-sound text p line (p + 1) (omega arith)) (λ e.
+    by-test (Sound text p line) (eqb (at text p) T) (λ e. train-sound text p line (p + 1) (omega arith)) (λ e.
+    by-test (Sound text p line) (eqb (at text p) X) (λ e. fixed-train-sound text p line (p + 1) (omega arith)) (λ e.
+    by-test (Sound text p line) (eqb (at text p) O) (λ e. order-sound text p line (p + 1) (omega arith)) (λ e. refl)))))

@@ -69,7 +69,7 @@ module _ (form : Form) where
 
         -- a line that is read ends later
         pub next-later : p < next
-        next-later = subst (Sound text p) e (line-sound text p line) .0
+        next-later = subst (Sound text p line) e (line-sound text p line) .0
 
         pub rest-goes-on : lineFault form line s l ≡ A.Read → Rest whole text next (line + 1) (withLine s l)
         rest-goes-on k =
@@ -87,7 +87,7 @@ module _ (form : Form) where
         → ((l : Line) (next : ℕ) → p < next → readLines form (suc n) text next (line + 1) (withLine s l) ≡ readLines form n text next (line + 1) (withLine s l))
         → onLine x (λ l next. onAnswer (lineFault form line s l) (readLines form (suc n) text next (line + 1) (withLine s l)))
         ≡ onLine x (λ l next. onAnswer (lineFault form line s l) (readLines form n text next (line + 1) (withLine s l)))
-    same-turn n p line s (L.Read l next) e k = ap (onAnswer (lineFault form line s l)) (k l next (subst (Sound text p) e (line-sound text p line) .0))
+    same-turn n p line s (L.Read l next) e k = ap (onAnswer (lineFault form line s l)) (k l next (subst (Sound text p line) e (line-sound text p line) .0))
     same-turn n p line s (L.Refused r) e k = refl
 
     pub one-more-bound : (n p line : ℕ) (s : SheetLines) → length text ≤ p + n → readLines form (suc n) text p line s ≡ readLines form n text p line s

@@ -68,5 +68,5 @@ pub text-good : (form : Form) (text : List ℕ) (p : ℕ) → Whole form (λ s. 
 unfolding noLines noOrders
 text-good form text p =
     reading-keeps form (λ s. Good form s × NamesIn text (s .orders)) text (no-lines-good form, λ j l. absurd (omega arith))
-    (λ p line next s l e f h. (lines-more form line s l f (h .0), names-kept form text line s l f (h .0) (subst (Sound text p) e (line-sound text p line) .1) (h .1)))
+    (λ p line next s l e f h. (lines-more form line s l f (h .0), names-kept form text line s l f (h .0) (subst (Sound text p line) e (line-sound text p line) .1) (h .1)))
     p
