@@ -1,19 +1,18 @@
 -- A BUFFER OF 163,840 BYTES IS LONG ENOUGH FOR WHATEVER IS PRINTED OF A TEXT. Assumes nothing.
-use mathlib.Core.Path.{_≡_, refl, sym, ap, _∙_, subst}
+use mathlib.Core.Path.{_≡_, refl, sym, ap, _∙_}
 use mathlib.Core.Bool.{Bool, true, false, cond}
 use mathlib.Core.List.{List, [], _∷_, _++_}
 use Prim.Native.Nat.{ℕ, zero, suc, _+_, _*_, _≤_, _<_}
 use native.Mathlib.Omega.{arith}
-use lib.Dec.{leb}
-use lib.IntN.{ℤ, pos, natAbs}
-use lib.ListN.{length, getD, take, drop}
+use lib.IntN.{pos, natAbs}
+use lib.ListN.{length, getD, drop}
 use lib.Seq.{take-at}
 use borrow.Author.Tests.{le-leb}
 use Rattle.numbers.specs.Counting.{nth}
 use Rattle.model.specs.Sheet.{Sheet}
 use Rattle.model.specs.Memory.{windowSheet, timetableSheet}
 use Rattle.model.specs.Lateness.{Pair, pair-at}
-use Rattle.model.specs.Admission.{Admission, admitted, not-admitted, admission, Admitted}
+use Rattle.model.specs.Admission.{Admitted}
 use Rattle.model.specs.AdmissionLaws.{admitted-means}
 use Rattle.model.specs.Refusal.{returned}
 use Rattle.model.specs.declared.Refusal.{Refusal}
@@ -23,7 +22,6 @@ use Rattle.rounds.specs.Rounds.{Answer, refused, planned, plan}
 use Rattle.rounds.specs.Areas.{Areas, long-enough, answer-after, answer-to, reply, pair-numbers, time-numbers, areas-after}
 use Rattle.rounds.specs.AnswerLaws.{Answered, no-schedule, listing, answered}
 use Rattle.rounds.specs.SizeLaws.{SmallPair, Sizes, sizes}
-use Rattle.sheet.specs.Reading.{readFrom}
 use Rattle.sheet.specs.Sheets.{windowReading, timetableReading}
 use Rattle.sheet.specs.AdmissionLaws.{read-windows-admitted, read-timetable-admitted}
 use Rattle.sheet.specs.ReturnedLaws.{refused-line}
@@ -31,8 +29,8 @@ use Rattle.sheet.specs.declared.Form.the-variants.{Windows, Timetable}
 use Rattle.sheet.specs.declared.Answer.the-variants as reading
 use Rattle.sheet.specs.declared.Answer as answers
 use Rattle.planner.specs.PlanningLaws.{pair-numbers-length, time-numbers-length, accepted}
-use Rattle.printer.specs.Lines.{plan-bytes, refusal-line}
-use Rattle.printer.specs.LengthLaws.{Small, plan-short, refusal-line-short}
+use Rattle.printer.specs.Lines.{refusal-line}
+use Rattle.printer.specs.LengthLaws.{plan-short, refusal-line-short}
 use Rattle.printer.specs.Writing.{Prints}
 use Rattle.printer.specs.declared.Printed.{Printed}
 use Rattle.printer.specs.declared.Printed.the-variants.{Bytes, TooShort}

@@ -12,7 +12,7 @@ use Rattle.model.specs.Sheet.{Sheet}
 use Rattle.model.specs.declared.Refusal.{Refusal}
 use Rattle.model.specs.declared.Reply.{Reply}
 use Rattle.model.specs.declared.Reply.the-variants.{Planned, Refused}
-use Rattle.rounds.specs.Areas.{Areas, answer-to, areas-after, reply}
+use Rattle.rounds.specs.Areas.{Areas}
 use Rattle.model.specs.Memory.{windowSheet, timetableSheet}
 use Rattle.sheet.specs.Sheets.{windowReading, timetableReading}
 use Rattle.sheet.specs.declared.Answer.{Answer}

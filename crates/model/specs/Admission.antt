@@ -6,7 +6,7 @@ use Prim.Native.Nat.{ℕ, suc, _-_, _≤_, _<_}
 use lib.Dec.{leb, ltb, eqb}
 use Rattle.numbers.specs.Counting.{every, each}
 use Rattle.model.specs.Sheet.{Windows, Timetable, Form, windows, timetable, Sheet, places}
-use Rattle.model.specs.Limits.{Range, Inside, inside, gap-range, window-range, capacity-range, running-range, departure-range, arrival-range, release-range, due-range, weight-range, window-counts, train-counts, order-counts}
+use Rattle.model.specs.Limits.{Inside, inside, gap-range, window-range, capacity-range, running-range, departure-range, arrival-range, release-range, due-range, weight-range, window-counts, train-counts, order-counts}
 use Rattle.model.specs.declared.Refusal.{Refusal}
 use Rattle.model.specs.declared.Refusal.the-variants.{OutOfRange, TooMany, KindMissing, OutOfOrder, PlacesDiffer}
 

@@ -1,14 +1,13 @@
 -- Each test of admission decides its proposition, and a sheet is admitted exactly if it passes them all. Assumes nothing.
-use mathlib.Core.Path.{_≡_, refl, subst}
+use mathlib.Core.Path.{_≡_, refl}
 use mathlib.Core.Bool.{Bool, true, false, _&&_}
 use Prim.Native.Nat.{ℕ, suc, _-_, _≤_, _<_}
 use native.Mathlib.Omega.{arith}
-use lib.Dec.{T}
-use Rattle.numbers.specs.Counting.{every, each}
+use Rattle.numbers.specs.Counting.{each}
 use Rattle.numbers.specs.Decides.{Decides, decides-le, decides-lt, decides-eq, decides-and, decides-iff, decides-every, decides-each}
 use Rattle.model.specs.Sheet.{Windows, Timetable, Form, windows, timetable, Sheet, places}
 use Rattle.model.specs.Limits.{Range, Inside, inside, gap-range, window-range, capacity-range, running-range, departure-range, arrival-range, release-range, due-range, weight-range}
-use Rattle.model.specs.Admission.{Few, FewWindows, few, fewWindows, Complete, SomeWindow, complete, someWindow, OrderInRange, orderInRange, WindowInRange, WindowsInRange, TimesInRange, FormInRange, formInRange, InRange, inRange, WindowsInOrder, TimesInOrder, FormInOrder, formInOrder, inOrder, Balanced, balanced, Admitted, Admission, admitted, not-admitted, passed, admission}
+use Rattle.model.specs.Admission.{Few, FewWindows, few, fewWindows, Complete, SomeWindow, complete, someWindow, OrderInRange, orderInRange, WindowInRange, TimesInRange, FormInRange, formInRange, InRange, inRange, FormInOrder, formInOrder, inOrder, Balanced, balanced, Admitted, Admission, admitted, not-admitted, passed, admission}
 use Rattle.model.specs.declared.Refusal.{Refusal}
 use Rattle.model.specs.declared.Refusal.the-variants.{OutOfRange, TooMany, KindMissing, OutOfOrder, PlacesDiffer}
 

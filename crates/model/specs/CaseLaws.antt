@@ -7,12 +7,11 @@ use native.Mathlib.Omega.{arith}
 use lib.Dec.{eqb}
 use lib.IntN.{pos}
 use Rattle.numbers.specs.Counting.{at, nth, count}
-use Rattle.model.specs.Schedule.{Open, InWindows, Schedule}
+use Rattle.model.specs.Schedule.{Open, Schedule}
 use Rattle.model.specs.Arrival.{arrivalBehind}
-use Rattle.model.specs.Lateness.{Pair, greatest-lateness, pairOf}
-use Rattle.model.specs.Sheet.{Sheet}
+use Rattle.model.specs.Lateness.{greatest-lateness, pairOf}
 use Rattle.model.specs.Memory.{windowsOf}
-use Rattle.model.specs.Admission.{Admission, admitted, admission}
+use Rattle.model.specs.Admission.{admitted, admission}
 use Rattle.model.specs.Cases.{cases, case-a, memory-a}
 
 pub cases-are-admitted : map admission cases ≡ (admitted ∷ admitted ∷ admitted ∷ admitted ∷ admitted ∷ admitted ∷ admitted ∷ admitted ∷ admitted ∷ [])

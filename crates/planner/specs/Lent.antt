@@ -4,10 +4,9 @@ use mathlib.Core.Bool.{Bool, true, false}
 use mathlib.Core.List.{List}
 use Prim.Native.Nat.{ℕ, _≤_}
 use lib.ListN.{length}
-use Rattle.model.specs.Sheet.{Form, windows, timetable, Sheet}
-use Rattle.model.specs.Admission.{Admitted}
+use Rattle.model.specs.Sheet.{Form, windows, timetable}
 use Rattle.planner.specs.Bounds.{AtMost}
-use Rattle.planner.specs.Columns.{windowsIn, timetableIn, sheetIn}
+use Rattle.admission.specs.Columns.{windowsIn, timetableIn}
 
 -- the columns of the form: those of the other form are not read
 pub record TimeColumns : Type 0 where

@@ -1,17 +1,17 @@
 -- An admitted sheet's columns have the bounds that the rounds ask for. Assumes nothing.
-use mathlib.Core.Path.{_≡_, refl, sym, ap, _∙_, subst}
+use mathlib.Core.Path.{_≡_}
 use mathlib.Core.Logic.{_⊎_, inl, inr}
 use mathlib.Core.List.{List}
-use Prim.Native.Nat.{ℕ, zero, suc, _-_, _≤_, _<_}
+use Prim.Native.Nat.{ℕ, suc, _-_, _≤_, _<_}
 use native.Mathlib.Omega.{arith}
-use lib.ListN.{length, getD, List·getD-eq-default}
+use lib.ListN.{length, List·getD-eq-default}
 use Rattle.numbers.specs.Counting.{at, nth}
 use Rattle.numbers.specs.Decides.{decides-lt, decided}
 use Rattle.model.specs.Sheet.{windows, timetable}
 use Rattle.model.specs.Admission.{Admitted}
 use Rattle.planner.specs.Bounds.{AtMost}
-use Rattle.planner.specs.Columns.{windowsIn, timetableIn, sheetIn}
-use Rattle.planner.specs.Lent.{TimeColumns, formIn, TimesBy, WindowColumns, TimetableColumns, OrderColumns}
+use Rattle.admission.specs.Columns.{windowsIn, timetableIn, sheetIn}
+use Rattle.planner.specs.Lent.{TimeColumns, formIn, WindowColumns, TimetableColumns, OrderColumns}
 
 -- a bound on the elements is one on every place, since past the end there is 0
 pub at-most : (b : ℕ) (l : List ℕ) → ((j : ℕ) → j < length l → at l j ≤ b) → AtMost b l

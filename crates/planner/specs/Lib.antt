@@ -4,7 +4,6 @@ pub mod LoadingStepLaws
 pub mod Ranks
 pub mod RankLaws
 pub mod GradingStepLaws
-pub mod Columns
 pub mod Clocked
 pub mod Held
 pub mod AreaLaws
@@ -20,11 +19,6 @@ pub mod GradedLaws
 pub mod SettleLaws
 pub mod Told
 pub mod RunLaws
-pub mod ColumnTests
-pub mod Verdict
-pub mod EveryLaws
-pub mod ColumnTestLaws
-pub mod Trimmed
 pub mod CallLaws
 pub mod Reading
 pub mod Planning

@@ -1,15 +1,11 @@
 -- Laws by which code is shown to compute the loading, a branch or a turn at a time: what the code has stands on the left. Assumes nothing.
 use Prim.Native.Nat.{ℕ, zero, suc, _+_, _-_, _≤_, _<_}
 use mathlib.Core.Path.{_≡_, refl}
-use mathlib.Core.Bool.{Bool, true, false}
 use mathlib.Core.List.{List, _++_, append-nil}
 use native.Mathlib.Omega.{arith}
 use native.Mathlib.Numerals.{add-one}
-use lib.Dec.{leb}
 use lib.ListN.{length, set, replicate, drop}
 use lib.Seq.{drop-length}
-use borrow.Author.Tests.{le-leb, lt-leb, ne-eqb}
-use Rattle.numbers.specs.Counting.{at}
 use Rattle.rounds.specs.Loading.{free, greater, pick, put, take-orders, load-down, load}
 use Rattle.planner.specs.Bounds.{AtMost}
 use Rattle.planner.specs.BoundsLaws.{at-most-set}

@@ -1,22 +1,20 @@
 -- A call that is equal to the rounds keeps its whole contract. Assumes nothing.
 use mathlib.Core.Path.{_≡_, refl, sym, ap, _∙_, subst}
-use mathlib.Core.Logic.{_⊎_, inl, inr, _↔_}
+use mathlib.Core.Logic.{_↔_}
 use mathlib.Core.Bool.{Bool, true, false, cond}
-use mathlib.Core.List.{List, [], _∷_, _++_}
-use Prim.Native.Nat.{ℕ, zero, suc, _+_, _-_, _*_, _≤_, _<_}
+use mathlib.Core.List.{List, [], _∷_}
+use Prim.Native.Nat.{ℕ, zero, suc, _+_, _-_, _*_, _<_}
 use native.Mathlib.Omega.{arith}
-use lib.IntN.{ℤ, pos, natAbs}
-use lib.ListN.{length, getD, take, drop, length-append, List·getD-append}
+use lib.IntN.{pos}
+use lib.ListN.{length, getD, drop, length-append, List·getD-append}
 use lib.Seq.{take-at, ext-getD, getD-at, getD-append-add}
 use Rattle.numbers.specs.Counting.{at, nth, table}
-use Rattle.numbers.specs.Decides.{decides-lt, decided, extend}
+use Rattle.numbers.specs.Decides.{extend}
 use Rattle.numbers.specs.CountingLaws.{table-length, table-at}
 use Rattle.model.specs.Sheet.{Sheet}
-use Rattle.model.specs.Schedule.{Schedule}
 use Rattle.model.specs.Lateness.{Pair, pair-at}
 use Rattle.model.specs.Admission.{Admitted, Admission, admitted, not-admitted, admission}
 use Rattle.model.specs.AdmissionLaws.{admitted-means}
-use Rattle.model.specs.declared.Refusal.{Refusal}
 use Rattle.model.specs.declared.Refusal.the-variants.{NoSchedule, AreaTooShort}
 use Rattle.model.specs.declared.Reply.{Reply}
 use Rattle.model.specs.declared.Reply.the-variants.{Planned, Refused}

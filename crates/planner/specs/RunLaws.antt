@@ -1,24 +1,22 @@
 -- From the rounds to the reply. Assumes nothing.
 use mathlib.Core.Path.{_≡_, refl, sym, ap, _∙_, subst}
-use mathlib.Core.Bool.{Bool, true, false}
-use mathlib.Core.List.{List, [], _∷_, _++_}
-use Prim.Native.Nat.{ℕ, zero, suc, _+_, _-_, _*_, _≤_, _<_}
+use mathlib.Core.Bool.{true, false}
+use mathlib.Core.List.{List, [], _∷_}
+use Prim.Native.Nat.{ℕ, zero, suc, _+_, _-_, _*_, _≤_}
 use native.Mathlib.Omega.{arith}
 use native.Mathlib.Numerals.{add-one}
 use lib.IntN.{ℤ}
 use lib.ListN.{length, take, replicate, length-append}
 use Rattle.numbers.specs.Counting.{at}
 use Rattle.model.specs.Sheet.{Sheet}
-use Rattle.model.specs.Lateness.{Pair}
-use Rattle.model.specs.declared.Reply.{Reply}
 use Rattle.model.specs.declared.Reply.the-variants.{Planned, Refused}
 use Rattle.model.specs.declared.Refusal.the-variants.{NoSchedule, RoundLimit}
-use Rattle.rounds.specs.Recording.{Plan, Recorded, nothing, recorded, listed}
-use Rattle.rounds.specs.Rounds.{Search, going, ended, above-everything, start, round, rounds, search, Answer, refused, planned, answer, plan}
+use Rattle.rounds.specs.Recording.{Recorded, nothing, recorded, listed}
+use Rattle.rounds.specs.Rounds.{Search, ended, above-everything, start, round, rounds, search, Answer, refused, answer, plan}
 use Rattle.rounds.specs.RoundsLaws.{rounds-ended}
-use Rattle.rounds.specs.Areas.{Areas, reply, areas-after, over, pair-numbers, time-numbers}
+use Rattle.rounds.specs.Areas.{reply, areas-after, pair-numbers}
 use Rattle.planner.specs.Bounds.{AtMost}
-use Rattle.planner.specs.Held.{Held, lastOf, trainsOf, timesOf}
+use Rattle.planner.specs.Held.{lastOf, trainsOf, timesOf}
 use Rattle.planner.specs.Shows.{Holds, Shows, goes-on, has-ended}
 use Rattle.planner.specs.ShowsLaws.{one-outcome}
 use Rattle.planner.specs.Told.{areas, Told}

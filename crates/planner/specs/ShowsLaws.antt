@@ -1,5 +1,5 @@
 -- A round of the code is a round of the definition. Assumes nothing.
-use mathlib.Core.Path.{_≡_, refl, sym, ap, _∙_, subst}
+use mathlib.Core.Path.{_≡_, sym, ap, _∙_, subst}
 use mathlib.Core.Bool.{Bool, true, false, cond}
 use mathlib.Core.List.{List}
 use Prim.Native.Nat.{ℕ, suc, _+_, _≤_}
@@ -10,8 +10,8 @@ use lib.Signed.{ltZ}
 use Rattle.numbers.specs.Counting.{nth}
 use Rattle.model.specs.Sheet.{Sheet}
 use Rattle.model.specs.Lateness.{worst}
-use Rattle.rounds.specs.Timing.{Timed, stopped, timed}
-use Rattle.rounds.specs.Recording.{Recorded, nothing, recorded, listed, record-pair}
+use Rattle.rounds.specs.Timing.{Timed}
+use Rattle.rounds.specs.Recording.{Recorded, listed}
 use Rattle.rounds.specs.Lowering.{lower, crowded}
 use Rattle.rounds.specs.Rounds.{Search, going, ended, loading, times, settle, grade, depart, round}
 use Rattle.planner.specs.Clocked.{Clocked, halts, runs}

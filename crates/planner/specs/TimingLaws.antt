@@ -10,7 +10,7 @@ use native.Mathlib.Nat.{mul-le-mul}
 use lib.Dec.{eqb, leb}
 use lib.ListN.{length, getD, set, take, drop, drop-of-length-le, List·getD-eq-default}
 use lib.Seq.{take-suc, take-length, take-suc-set, getD-take, drop-cons, set-at, append-snoc}
-use borrow.Author.Tests.{eq-eqb, ne-eqb, le-leb, lt-leb, leb-true}
+use borrow.Author.Tests.{le-leb, lt-leb, leb-true}
 use Rattle.numbers.specs.Counting.{at, nth, table, row, every, each}
 use Rattle.numbers.specs.Decides.{decided, decides-eq, decides-lt}
 use Rattle.numbers.specs.CountingLaws.{table-length, table-at}
@@ -19,7 +19,7 @@ use Rattle.model.specs.Arrival.{arrivalBehind}
 use Rattle.model.specs.ArrivalLaws.{arrival-first, arrival-next, arrival-bound}
 use Rattle.rounds.specs.Timing.{ready, or-window, first-window, earliest, Departed, none, departed, leave, next-departure, departures, arrive, on-timetable, timing}
 use Rattle.planner.specs.Bounds.{AtMost}
-use Rattle.planner.specs.Columns.{windowsIn, timetableIn}
+use Rattle.admission.specs.Columns.{windowsIn, timetableIn}
 use Rattle.planner.specs.Clocked.{Clocked, halts, runs}
 use Rattle.planner.specs.Departing.{Departing, stays, leaves}
 

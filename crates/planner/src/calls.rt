@@ -1,18 +1,15 @@
-// From a sheet's columns to the reply: the tests 5, 2, 6, 7 and 10, then the rounds.
-use crate::admission;
-use crate::admission::Verdict;
+// From an admitted sheet's columns to the reply: test 10, then the rounds.
 use crate::search;
 use model::Refusal;
 use model::Reply;
-ghost use mathlib.Core.Path.{_≡_};
 ghost use Prim.Native.Nat.{_≤_};
 ghost use lib.ListN.{length};
 ghost use Rattle.model.specs.Admission.{Admitted};
 ghost use Rattle.rounds.specs.Areas.{answer-to};
-ghost use Rattle.planner.specs.Columns.{sheetIn};
+ghost use Rattle.admission.specs.Columns.{sheetIn};
 ghost use Rattle.planner.specs.Lent.{formIn, TimesBy, OrderColumns};
 ghost use Rattle.planner.specs.Told.{areas, Told};
-ghost use Rattle.planner.specs.Trimmed.{trimmed, trimmedWindows, trimmedTimetable};
+ghost use Rattle.admission.specs.Trimmed.{trimmed, trimmedWindows, trimmedTimetable};
 
 // Test 10, then the rounds, of an admitted sheet of either form.
 fn with_areas(
@@ -71,7 +68,7 @@ fn with_areas(
     )
 }
 
-// A sheet of the window form, trimmed to its counts, which are within their limits.
+// An admitted sheet of the window form, each column up to its count.
 pub fn on_windows<'a>(
     gap: u32,
     v: usize,
@@ -88,8 +85,9 @@ pub fn on_windows<'a>(
     train_of_order: &mut [u8],
     times: &mut [u32],
 ) -> Reply
-    requires { ⌜ (v ≤ 64) × (q ≤ 32) × (n ≤ 200) × (v ≤ length (now from)) × (v ≤ length (now to)) × (q ≤ length (now capacity)) × (q ≤ length (now running)) ⌝ }
+    requires { ⌜ (v ≤ length (now from)) × (v ≤ length (now to)) × (q ≤ length (now capacity)) × (q ≤ length (now running)) ⌝ }
     requires { ⌜ (n ≤ length (now release)) × (n ≤ length (now due)) × (n ≤ length (now weight)) ⌝ }
+    requires { ⌜ Admitted (trimmed q n (now capacity) (now release) (now due) (now weight) (trimmedWindows gap v q (now from) (now to) (now running))) ⌝ }
     ensures { λ r. ⌜ Told (trimmed q n (now (capacity .entry)) (now (release .entry)) (now (due .entry)) (now (weight .entry)) (trimmedWindows gap v q (now (from .entry)) (now (to .entry)) (now (running .entry))))
         (answer-to (trimmed q n (now (capacity .entry)) (now (release .entry)) (now (due .entry)) (now (weight .entry)) (trimmedWindows gap v q (now (from .entry)) (now (to .entry)) (now (running .entry))))
         (areas (now (pairs .entry)) (now («train_of_order» .entry)) (now (times .entry))))
@@ -102,38 +100,25 @@ pub fn on_windows<'a>(
     let release = &release[..n];
     let due = &due[..n];
     let weight = &weight[..n];
-    let verdict = admission::windows_verdict(
+    with_areas(
+        false,
         gap,
         from,
         to,
-        capacity,
         running,
+        running,
+        running,
+        capacity,
         release,
         due,
         weight,
-    );
-    match verdict {
-        Verdict::Refused(refusal) => Reply::Refused(refusal),
-        Verdict::Admitted => with_areas(
-            false,
-            gap,
-            from,
-            to,
-            running,
-            running,
-            running,
-            capacity,
-            release,
-            due,
-            weight,
-            pairs,
-            train_of_order,
-            times,
-        ),
-    }
+        pairs,
+        train_of_order,
+        times,
+    )
 }
 
-// A sheet of the timetable form, trimmed to its counts, which are within their limits.
+// An admitted sheet of the timetable form, each column up to its count.
 pub fn on_timetable<'a>(
     q: usize,
     n: usize,
@@ -147,8 +132,9 @@ pub fn on_timetable<'a>(
     train_of_order: &mut [u8],
     times: &mut [u32],
 ) -> Reply
-    requires { ⌜ (q ≤ 32) × (n ≤ 200) × (q ≤ length (now capacity)) × (q ≤ length (now departure)) × (q ≤ length (now arrival)) ⌝ }
+    requires { ⌜ (q ≤ length (now capacity)) × (q ≤ length (now departure)) × (q ≤ length (now arrival)) ⌝ }
     requires { ⌜ (n ≤ length (now release)) × (n ≤ length (now due)) × (n ≤ length (now weight)) ⌝ }
+    requires { ⌜ Admitted (trimmed q n (now capacity) (now release) (now due) (now weight) (trimmedTimetable q (now departure) (now arrival))) ⌝ }
     ensures { λ r. ⌜ Told (trimmed q n (now (capacity .entry)) (now (release .entry)) (now (due .entry)) (now (weight .entry)) (trimmedTimetable q (now (departure .entry)) (now (arrival .entry))))
         (answer-to (trimmed q n (now (capacity .entry)) (now (release .entry)) (now (due .entry)) (now (weight .entry)) (trimmedTimetable q (now (departure .entry)) (now (arrival .entry))))
         (areas (now (pairs .entry)) (now («train_of_order» .entry)) (now (times .entry))))
@@ -160,24 +146,20 @@ pub fn on_timetable<'a>(
     let release = &release[..n];
     let due = &due[..n];
     let weight = &weight[..n];
-    let verdict = admission::timetable_verdict(capacity, departure, arrival, release, due, weight);
-    match verdict {
-        Verdict::Refused(refusal) => Reply::Refused(refusal),
-        Verdict::Admitted => with_areas(
-            true,
-            0,
-            departure,
-            departure,
-            departure,
-            departure,
-            arrival,
-            capacity,
-            release,
-            due,
-            weight,
-            pairs,
-            train_of_order,
-            times,
-        ),
-    }
+    with_areas(
+        true,
+        0,
+        departure,
+        departure,
+        departure,
+        departure,
+        arrival,
+        capacity,
+        release,
+        due,
+        weight,
+        pairs,
+        train_of_order,
+        times,
+    )
 }

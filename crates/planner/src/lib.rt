@@ -1,6 +1,5 @@
 // The planning calls: one for each form. A sheet in memory goes in by value, and three areas are lent: pairs (two numbers a pair: last arrival, worst
 // weighted lateness), the train of each order, and the times of each train (two numbers a train: departure, arrival).
-mod admission;
 mod calls;
 mod grading;
 mod loading;
@@ -9,7 +8,7 @@ mod recording;
 mod search;
 mod timing;
 
-use model::Refusal;
+use admission::Verdict;
 use model::Reply;
 use model::TimetableSheet;
 use model::WindowSheet;
@@ -27,23 +26,15 @@ pub fn plan_windows(
     ensures { λ r. ⌜ PlanningCall (windowSheet sheet) r
         (areas (now (pairs .exit)) (now («train_of_order» .exit)) (now (times .exit))) (areas (now (pairs .entry)) (now («train_of_order» .entry)) (now (times .entry))) ⌝ }
 {
-    let v = sheet.window_count;
-    let q = sheet.train_count;
-    let n = sheet.order_count;
-    if 64 < v {
-        return Reply::Refused(Refusal::TooMany(0));
-    }
-    if 32 < q {
-        return Reply::Refused(Refusal::TooMany(0));
-    }
-    if 200 < n {
-        return Reply::Refused(Refusal::TooMany(0));
+    let verdict = admission::admit_windows(sheet);
+    if let Verdict::Refused(refusal) = verdict {
+        return Reply::Refused(refusal);
     }
     calls::on_windows(
         sheet.gap,
-        v,
-        q,
-        n,
+        sheet.window_count,
+        sheet.train_count,
+        sheet.order_count,
         &sheet.window_from,
         &sheet.window_to,
         &sheet.capacity,
@@ -67,17 +58,13 @@ pub fn plan_timetable(
     ensures { λ r. ⌜ PlanningCall (timetableSheet sheet) r
         (areas (now (pairs .exit)) (now («train_of_order» .exit)) (now (times .exit))) (areas (now (pairs .entry)) (now («train_of_order» .entry)) (now (times .entry))) ⌝ }
 {
-    let q = sheet.train_count;
-    let n = sheet.order_count;
-    if 32 < q {
-        return Reply::Refused(Refusal::TooMany(0));
-    }
-    if 200 < n {
-        return Reply::Refused(Refusal::TooMany(0));
+    let verdict = admission::admit_timetable(sheet);
+    if let Verdict::Refused(refusal) = verdict {
+        return Reply::Refused(refusal);
     }
     calls::on_timetable(
-        q,
-        n,
+        sheet.train_count,
+        sheet.order_count,
         &sheet.capacity,
         &sheet.departure,
         &sheet.arrival,

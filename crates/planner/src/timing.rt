@@ -10,7 +10,7 @@ ghost use Rattle.model.specs.Sheet.{windows, timetable};
 ghost use Rattle.model.specs.Arrival.{arrivalBehind};
 ghost use Rattle.rounds.specs.Timing.{ready, first-window, earliest, departures, timing};
 ghost use Rattle.planner.specs.Bounds.{AtMost};
-ghost use Rattle.planner.specs.Columns.{windowsIn, timetableIn};
+ghost use Rattle.admission.specs.Columns.{windowsIn, timetableIn};
 ghost use Rattle.planner.specs.Clocked.{Clocked};
 ghost use Rattle.planner.specs.Departing.{Departing};
 

@@ -1,16 +1,16 @@
 -- The definitions give the bytes that document 01 prints for case a, the P line of case g, and an E line: each is computed. Assumes nothing.
 use mathlib.Core.Path.{_≡_, refl}
 use mathlib.Core.Bool.{false}
-use mathlib.Core.List.{List, [], _∷_}
+use mathlib.Core.List.{[], _∷_}
 use lib.IntN.{pos, negsuc}
 use Rattle.model.specs.declared.Refusal.the-variants.{OutOfRange}
 use Rattle.sheet.specs.Fields.{runOf}
 use Rattle.sheet.specs.Numbers.{decimalOf, numberAt, numberField}
 use Rattle.sheet.specs.Names.{nameField}
-use Rattle.sheet.specs.Lines.{ended, gapLine, windowLine, trainLine, fixedTrainLine, orderLine, lineAt}
+use Rattle.sheet.specs.Lines.{ended, gapLine, windowLine, trainLine, fixedTrainLine, orderLine}
 use Rattle.sheet.specs.SheetLines.{noLines}
-use Rattle.sheet.specs.Reading.{refused, readFrom}
-use Rattle.sheet.specs.OrderNames.{nameOf, nameIn}
+use Rattle.sheet.specs.Reading.{refused}
+use Rattle.sheet.specs.OrderNames.{nameIn}
 use Rattle.sheet.specs.TextCases.{bytes, text-a}
 use Rattle.printer.specs.Decimal.{digits, decimal, signed}
 use Rattle.printer.specs.Lines.{pair-line, time-line, order-line, rounds-line, refusal-line, pair-lines, time-lines, name-of, order-lines, plan-bytes}

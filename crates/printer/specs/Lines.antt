@@ -6,9 +6,8 @@ use lib.IntN.{ℤ, pos}
 use lib.ListN.{length, getD, take, drop}
 use Rattle.model.specs.Refusal.{number, returned}
 use Rattle.model.specs.declared.Refusal.{Refusal}
-use Rattle.sheet.specs.declared.Form.{Form}
 use Rattle.sheet.specs.declared.Form.the-variants.{Windows, Timetable}
-use Rattle.sheet.specs.OrderNames.{Span, nameIn}
+use Rattle.sheet.specs.OrderNames.{nameIn}
 use Rattle.printer.specs.Decimal.{decimal, signed}
 
 -- ---- the lines

@@ -9,11 +9,9 @@ use Rattle.numbers.specs.Counting.{nth}
 use Rattle.model.specs.Sheet.{Sheet}
 use Rattle.model.specs.Lateness.{Pair}
 use Rattle.model.specs.Admission.{Admission, admitted, not-admitted, admission}
-use Rattle.model.specs.declared.Refusal.{Refusal}
 use Rattle.model.specs.declared.Refusal.the-variants.{AreaTooShort}
 use Rattle.model.specs.declared.Reply.{Reply}
 use Rattle.model.specs.declared.Reply.the-variants.{Planned, Refused}
-use Rattle.rounds.specs.Recording.{Plan}
 use Rattle.rounds.specs.Rounds.{Answer, refused, planned, plan}
 
 -- "three lent areas": pairs, two numbers each (last arrival, worst weighted lateness); the train of each order; the times of each train, two

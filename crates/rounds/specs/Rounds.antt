@@ -1,12 +1,12 @@
 -- DOCUMENT 01, "THE ROUNDS": A ROUND, THE ROUNDS, THE ANSWER.
-use mathlib.Core.Bool.{Bool, true, false, cond}
+use mathlib.Core.Bool.{cond}
 use mathlib.Core.List.{List}
 use Prim.Native.Nat.{ℕ, zero, suc, _*_}
 use lib.IntN.{ℤ, pos}
 use lib.ListN.{replicate}
 use lib.Signed.{ltZ}
-use Rattle.numbers.specs.Counting.{at, nth}
-use Rattle.model.specs.Sheet.{Form, Sheet}
+use Rattle.numbers.specs.Counting.{nth}
+use Rattle.model.specs.Sheet.{Sheet}
 use Rattle.model.specs.Lateness.{Pair, greatest-lateness, worst}
 use Rattle.model.specs.declared.Refusal.{Refusal}
 use Rattle.model.specs.declared.Refusal.the-variants.{NoSchedule, RoundLimit}

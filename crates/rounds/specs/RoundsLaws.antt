@@ -1,33 +1,30 @@
 -- Laws of the rounds: y is at first above everything; 8 is given exactly when step 2 stops round 1; the count is that of the rounds. Assumes nothing.
-use mathlib.Core.Path.{_≡_, refl, sym, ap, _∙_, subst}
+use mathlib.Core.Path.{_≡_, refl, ap, _∙_}
 use mathlib.Core.Logic.{_⊎_, inl, inr}
 use mathlib.Core.Bool.{Bool, true, false, cond}
-use mathlib.Core.List.{List, [], _∷_, _++_}
-use Prim.Native.Nat.{ℕ, zero, suc, _+_, _-_, _*_, _≤_, _<_}
+use mathlib.Core.List.{List, []}
+use Prim.Native.Nat.{ℕ, zero, suc, _-_, _*_, _≤_, _<_}
 use native.Mathlib.Omega.{arith}
-use native.Mathlib.Nat.{mul-le-mul, add-zero, add-suc, suc-add}
+use native.Mathlib.Nat.{mul-le-mul}
 use lib.Dec.{leb}
-use lib.IntN.{ℤ, pos}
-use lib.ListN.{length, getD, replicate, List·getD-eq-default}
+use lib.IntN.{ℤ}
+use lib.ListN.{replicate, List·getD-eq-default}
 use lib.Signed.{ltZ, _<ℤ_}
-use Rattle.numbers.specs.Counting.{at, nth, row, table, each}
-use Rattle.numbers.specs.Decides.{Decides, decides-le, decides-lt, decides-ltℤ, decides-each, decided, cond-yes}
+use Rattle.numbers.specs.Counting.{at, nth, row, each}
+use Rattle.numbers.specs.Decides.{decides-lt, decides-ltℤ, decided, cond-yes}
 use Rattle.numbers.specs.CountingLaws.{table-length, table-at}
-use Rattle.model.specs.Sheet.{Windows, Timetable, Form, windows, timetable, Sheet}
-use Rattle.model.specs.Schedule.{Open, InWindows}
-use Rattle.model.specs.Arrival.{arrival, arrivalBehind}
+use Rattle.model.specs.Sheet.{Windows, Form, windows, timetable, Sheet}
+use Rattle.model.specs.Arrival.{arrival}
 use Rattle.model.specs.ArrivalLaws.{arrival-bound}
-use Rattle.model.specs.Lateness.{Pair, lateness, worst}
+use Rattle.model.specs.Lateness.{Pair, worst}
 use Rattle.model.specs.LatenessLaws.{lateness-below, worst-one}
-use Rattle.model.specs.Limits.{Inside}
 use Rattle.model.specs.Admission.{WindowsInRange, FormInRange, FormInOrder, WindowsInOrder, Admitted}
-use Rattle.model.specs.declared.Refusal.{Refusal}
-use Rattle.model.specs.declared.Refusal.the-variants.{NoSchedule, RoundLimit}
-use Rattle.rounds.specs.Timing.{ready, Timed, stopped, timed, Departed, none, departed, departures, arrive, on-timetable, timing}
+use Rattle.model.specs.declared.Refusal.the-variants.{NoSchedule}
+use Rattle.rounds.specs.Timing.{ready, Timed, stopped, timed, Departed, departures, arrive, on-timetable, timing}
 use Rattle.rounds.specs.TimingLaws.{Earliest, none-can, earliest-are, departures-are}
-use Rattle.rounds.specs.Recording.{Plan, Recorded, nothing, recorded, listed, record-pair}
+use Rattle.rounds.specs.Recording.{Plan, Recorded, nothing, recorded, record-pair}
 use Rattle.rounds.specs.Lowering.{lower, crowded}
-use Rattle.rounds.specs.Rounds.{Search, going, ended, above-everything, start, loading, times, settle, grade, depart, round, rounds, search, Answer, refused, planned, answer, plan}
+use Rattle.rounds.specs.Rounds.{Search, going, ended, above-everything, start, loading, times, settle, grade, depart, round, rounds, search, refused, answer, plan}
 
 -- ---- arrivals of an admitted sheet are within the table's range
 

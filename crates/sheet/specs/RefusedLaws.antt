@@ -9,7 +9,7 @@ use Rattle.sheet.specs.OrderLines.{noOrders}
 use Rattle.sheet.specs.SheetLines.{noLines}
 use Rattle.sheet.specs.Reading.{readFrom}
 use Rattle.sheet.specs.Sheets.{windowSheetOf, timetableSheetOf, windowReading, timetableReading}
-use Rattle.sheet.specs.OrderNames.{Span, nameOf, nameIn}
+use Rattle.sheet.specs.OrderNames.{nameOf, nameIn}
 use Rattle.sheet.specs.TextLaws.{text-good}
 use Rattle.sheet.specs.declared.Answer.the-variants.{Refused}
 use Rattle.sheet.specs.declared.Form.{Form}

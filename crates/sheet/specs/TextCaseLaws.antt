@@ -1,20 +1,19 @@
 -- The definitions give what the texts of TextCases.antt must give: each is computed. Assumes nothing.
 use mathlib.Core.Path.{_≡_, refl}
-use mathlib.Core.List.{List, map}
+use mathlib.Core.List.{map}
 use Rattle.model.specs.Cases.{memory-a, case-h}
 use Rattle.model.specs.Memory.{timetableSheet}
 use Rattle.sheet.specs.Fields.{runOf}
 use Rattle.sheet.specs.Numbers.{decimalOf, numberAt, numberField}
 use Rattle.sheet.specs.Names.{nameField}
-use Rattle.sheet.specs.Lines.{ended, gapLine, windowLine, trainLine, fixedTrainLine, orderLine, lineAt}
+use Rattle.sheet.specs.Lines.{ended, gapLine, windowLine, trainLine, fixedTrainLine, orderLine}
 use Rattle.sheet.specs.SheetLines.{noLines}
 use Rattle.sheet.specs.Reading.{refused, readFrom}
 use Rattle.sheet.specs.Sheets.{windowReading, timetableReading}
-use Rattle.sheet.specs.OrderNames.{Span, nameIn}
+use Rattle.sheet.specs.OrderNames.{nameIn}
 use Rattle.sheet.specs.TextCases.{bytes, text-a, text-h, Try, tries}
-use Rattle.sheet.specs.declared.Answer.{Answer}
 use Rattle.sheet.specs.declared.Answer.the-variants.{Read, Refused}
-use Rattle.sheet.specs.declared.Form.the-variants.{Windows, Timetable}
+use Rattle.sheet.specs.declared.Form.the-variants.{Windows}
 
 -- the sheet that document 01 prints is the model's case a
 pub a-is-read : windowReading text-a ≡ record { answer = Read; sheet = memory-a }

@@ -1,6 +1,6 @@
 -- `print_timetable` meets its contract: the reading call's refusal is printed, or the planning call's reply. Assumes nothing.
-use mathlib.Core.Bool.{true, false}
-use mathlib.Core.Path.{_≡_, refl, sym, ap, _∙_}
+use mathlib.Core.Bool.{true}
+use mathlib.Core.Path.{sym, ap, _∙_}
 use Rattle.model.specs.Memory.{timetableSheet}
 use Rattle.sheet.specs.Sheets.{timetableReading}
 use Rattle.sheet.specs.declared.TimetableReading.{TimetableReading}

@@ -1,6 +1,6 @@
 -- `print_windows` meets its contract: the reading call's refusal is printed, or the planning call's reply. Assumes nothing.
-use mathlib.Core.Bool.{true, false}
-use mathlib.Core.Path.{_≡_, refl, sym, ap, _∙_}
+use mathlib.Core.Bool.{false}
+use mathlib.Core.Path.{sym, ap, _∙_}
 use Rattle.model.specs.Memory.{windowSheet}
 use Rattle.sheet.specs.Sheets.{windowReading}
 use Rattle.sheet.specs.declared.WindowReading.{WindowReading}

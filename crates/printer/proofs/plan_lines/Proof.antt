@@ -1,9 +1,9 @@
 -- `plan_lines` meets its contract: the passes of its lines join. Assumes nothing.
-use mathlib.Core.List.{[], _∷_, _++_}
+use mathlib.Core.List.{_++_}
 use Prim.Native.Nat.{_/_}
 use lib.ListN.{length}
 use Rattle.printer.specs.declared.Place.the-variants.{At}
-use Rattle.printer.specs.Writing.{state, pass}
+use Rattle.printer.specs.Writing.{state}
 use Rattle.printer.specs.WritingLaws.{pass-then}
 use Rattle.printer.specs.Lines.{plan-bytes, pair-lines, time-lines, order-lines, name-of, rounds-line}
 use borrow.Author.Needs.{needs}

@@ -1,22 +1,19 @@
--- `calls::on_windows` meets its contract: the columns up to their counts make the sheet in memory; a failed test is its refusal, and else the areas
--- and the rounds answer. Assumes nothing.
+-- `calls::on_windows` meets its contract: the columns up to their counts make the sheet in memory. Assumes nothing.
 use borrow.Author.Needs.{needs}
-use mathlib.Core.Path.{_≡_, refl, sym, _∙_, subst}
+use mathlib.Core.Path.{refl, sym, subst}
 use mathlib.Core.Bool.{false}
 use mathlib.Core.List.{List}
 use Prim.Native.Nat.{ℕ}
 use native.Mathlib.Omega.{arith}
-use lib.ListN.{length, take, length-take}
+use lib.ListN.{take, length-take}
 use Rattle.model.specs.Sheet.{Sheet, windows}
 use Rattle.model.specs.Admission.{Admitted}
-use Rattle.model.specs.declared.Reply.the-variants.{Refused}
 use Rattle.rounds.specs.Areas.{Areas, answer-to}
-use Rattle.planner.specs.Columns.{windowsIn, sheetIn}
-use Rattle.planner.specs.ColumnTestLaws.{verdict-sound}
+use Rattle.admission.specs.Columns.{windowsIn, sheetIn}
+use Rattle.admission.specs.TrimmedLaws.{windows-trimmed}
 use Rattle.planner.specs.Lent.{TimeColumns}
 use Rattle.planner.specs.LentLaws.{order-columns, window-columns}
 use Rattle.planner.specs.Told.{areas, Told}
-use Rattle.planner.specs.CallLaws.{told-refused, answer-verdict, windows-trimmed}
 use Rattle.planner.proofs.calls.on_windows.Statement.{statement}
 use Rattle.planner.proofs.calls.on_windows.Tie as tie
 
@@ -41,25 +38,11 @@ slice-aggregate-due c = simp length-take (omega (arith, c .before .before .befor
 slice-aggregate-weight : tie.Need-slice-aggregate-weight
 slice-aggregate-weight c = simp length-take (omega (arith, c .before .before .before .before .before .before .before .before .before .before .before .before .before .before .before .before .pre))
 
-windows-verdict-requires : tie.Need-windows-verdict-requires
-windows-verdict-requires c κs =
-    let p = c .before .before .before .before .before .before .before .before .before .before .before .before .before .before .before .before .pre in (
-      (simp length-take (omega (arith, p)), simp length-take (omega (arith, p))),
-      ((simp length-take (omega (arith, p)), simp length-take (omega (arith, p))), (simp length-take (omega (arith, p)), simp length-take (omega (arith, p)), simp length-take (omega (arith, p)))),
-    )
-
-enum-known-verdict : tie.Need-enum-known-verdict
-enum-known-verdict c = search needs
-
-enum-told : tie.Need-enum-told
-enum-told c = search needs
-
 with-areas-requires : tie.Need-with-areas-requires
 with-areas-requires c κs =
-    let b = c .before .before .before .before .before .before .before .before .before .before .before .before .before .before .before .before .before .before .before .before .before .before in
+    let b = c .before .before .before .before .before .before .before .before .before .before .before .before .before .before .before .before .before .before .before in
     let a = b .args in
     let p = b .pre in
-    let v = c .before .before .before .before .before .windows-verdict in
     let from : List ℕ = take (a .v) (a .from .now) in
     let to : List ℕ = take (a .v) (a .to .now) in
     let capacity : List ℕ = take (a .q) (a .capacity .now) in
@@ -69,23 +52,10 @@ with-areas-requires c κs =
     let weight : List ℕ = take (a .n) (a .weight .now) in
     let T : TimeColumns = record { by-timetable = false; gap = a .gap; from = from; to = to; running = running; departure = running; arrival = running } in
     let admitted : Admitted (sheetIn capacity release due weight (windows (windowsIn (a .gap) from to running))) =
-    verdict-sound (sheetIn capacity release due weight (windows (windowsIn (a .gap) from to running))) (sym (v .ensures) ∙ c .before .before .before .enum-told .given .1) in (
+    subst Admitted (sym (windows-trimmed (a .q) (a .n) (a .capacity .now) (a .release .now) (a .due .now) (a .weight .now) (p .0 .2) (p .1 .0 .0) (a .gap) (a .v) (a .from .now) (a .to .now) (a .running .now) (p .0 .0))) (p .1 .1) in (
       window-columns (a .gap) from to running capacity release due weight (simp length-take (omega (arith, p))) (simp length-take (omega (arith, p))) admitted T refl refl refl refl,
       (order-columns T capacity release due weight (simp length-take (omega (arith, p))) (simp length-take (omega (arith, p))) admitted, admitted),
     )
-
-returns : tie.Need-returns
-returns c =
-    let b = c .before .before .before .before .before .before .before .before .before .before .before .before .before .before .before .before .before .before .before .before in
-    let a = b .args in
-    let p = b .pre in
-    let v = c .before .before .before .windows-verdict in
-    let lent : Areas = areas (a .pairs .now) (a .train-of-order .now) (a .times .now) in
-    let S : Sheet = sheetIn (take (a .q) (a .capacity .now)) (take (a .n) (a .release .now)) (take (a .n) (a .due .now)) (take (a .n) (a .weight .now))
-    (windows (windowsIn (a .gap) (take (a .v) (a .from .now)) (take (a .v) (a .to .now)) (take (a .q) (a .running .now)))) in
-    subst (λ (s : Sheet). Told s (answer-to s lent) (Refused (c .before .verdict .given .0 .0)) lent lent)
-    (windows-trimmed (a .q) (a .n) (a .capacity .now) (a .release .now) (a .due .now) (a .weight .now) (p .0 .5) (p .1 .0) (a .gap) (a .v) (a .from .now) (a .to .now) (a .running .now) (p .0 .3))
-    (told-refused S lent _ (answer-verdict S lent _ (sym (v .ensures) ∙ c .before .verdict .given .1)))
 
 same-length : tie.Need-same-length
 same-length c = search needs
@@ -96,16 +66,16 @@ same-length-2 c = search needs
 same-length-3 : tie.Need-same-length-3
 same-length-3 c = search needs
 
-returns-2 : tie.Need-returns-2
-returns-2 c =
-    let b = c .before .before .before .before .before .before .before .before .before .before .before .before .before .before .before .before .before .before .before .before .before .before .before .before .before .before .before .before in
+returns : tie.Need-returns
+returns c =
+    let b = c .before .before .before .before .before .before .before .before .before .before .before .before .before .before .before .before .before .before .before .before .before .before .before .before .before in
     let a = b .args in
     let p = b .pre in
     let r = c .before .before .before .before .before .with-areas in
     let lent : Areas = areas (a .pairs .now) (a .train-of-order .now) (a .times .now) in
     let left : Areas = areas (r .last .1 .1 .1 .1 .1 .1 .1 .1 .1 .1 .1 .0) (r .last .1 .1 .1 .1 .1 .1 .1 .1 .1 .1 .1 .1 .0) (r .last .1 .1 .1 .1 .1 .1 .1 .1 .1 .1 .1 .1 .1 .0) in
     subst (λ (s : Sheet). Told s (answer-to s lent) (r .result) left lent)
-    (windows-trimmed (a .q) (a .n) (a .capacity .now) (a .release .now) (a .due .now) (a .weight .now) (p .0 .5) (p .1 .0) (a .gap) (a .v) (a .from .now) (a .to .now) (a .running .now) (p .0 .3))
+    (windows-trimmed (a .q) (a .n) (a .capacity .now) (a .release .now) (a .due .now) (a .weight .now) (p .0 .2) (p .1 .0 .0) (a .gap) (a .v) (a .from .now) (a .to .now) (a .running .now) (p .0 .0))
     (r .ensures)
 
 pub on-windows-spec : {M : Type 1} → statement M
@@ -119,12 +89,8 @@ on-windows-spec =
     slice-aggregate-release
     slice-aggregate-due
     slice-aggregate-weight
-    windows-verdict-requires
-    enum-known-verdict
-    enum-told
     with-areas-requires
-    returns
     same-length
     same-length-2
     same-length-3
-    returns-2)
+    returns)

@@ -1,14 +1,13 @@
 -- `calls::with_areas` meets its contract: a short area is refused, and else the rounds answer. Assumes nothing.
 use borrow.Author.Needs.{needs}
-use mathlib.Core.Path.{_≡_, sym, subst}
+use mathlib.Core.Path.{sym, subst}
 use native.Mathlib.Omega.{arith}
 use native.Mathlib.Nat.{mul-le-mul}
-use lib.ListN.{length}
 use Rattle.model.specs.Sheet.{Sheet}
 use Rattle.model.specs.declared.Refusal.the-variants.{AreaTooShort}
 use Rattle.rounds.specs.Rounds.{Answer}
 use Rattle.rounds.specs.Areas.{Areas}
-use Rattle.planner.specs.Columns.{sheetIn}
+use Rattle.admission.specs.Columns.{sheetIn}
 use Rattle.planner.specs.Lent.{TimeColumns, formIn}
 use Rattle.planner.specs.Told.{areas, Told}
 use Rattle.planner.specs.CallLaws.{told-refused, answer-short-pairs, answer-short-trains, answer-short-times, answer-planned}

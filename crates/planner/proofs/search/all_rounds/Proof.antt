@@ -1,15 +1,13 @@
 -- `search::all_rounds` meets its contract: after k turns the progress and the areas show the search after k rounds; the limit is never met. Assumes
 -- nothing.
-use borrow.Author.Needs.{needs}
-use mathlib.Core.Path.{_≡_, refl, sym, subst}
+use mathlib.Core.Path.{_≡_, refl}
 use Prim.Native.Nat.{ℕ, _+_, _*_, _-_, _≤_}
 use native.Mathlib.Omega.{arith}
 use native.Mathlib.Nat.{mul-le-mul}
-use lib.ListN.{length, take, length-take, length-append, length-drop}
+use lib.ListN.{length, length-take, length-append, length-drop}
 use Rattle.model.specs.Sheet.{Sheet}
-use Rattle.rounds.specs.Rounds.{start, rounds}
 use Rattle.front.specs.Front.{never-cut-off}
-use Rattle.planner.specs.Columns.{sheetIn}
+use Rattle.admission.specs.Columns.{sheetIn}
 use Rattle.planner.specs.Lent.{TimeColumns, formIn}
 use Rattle.planner.specs.RankLaws.{ranks-room, places-room, ranks-front, places-front, ranked-front}
 use Rattle.planner.specs.RunLaws.{Turn, first-turn, first-latest, first-most, next-shows, ends-none, ends-planned, cut-off}

@@ -11,7 +11,7 @@ use Rattle.model.specs.Sheet.{Sheet}
 use Rattle.model.specs.Lateness.{greatest-lateness}
 use Rattle.rounds.specs.Timing.{ready, timing}
 use Rattle.planner.specs.Bounds.{AtMost}
-use Rattle.planner.specs.Columns.{sheetIn}
+use Rattle.admission.specs.Columns.{sheetIn}
 use Rattle.planner.specs.Clocked.{Clocked}
 use Rattle.planner.specs.Lent.{TimeColumns, formIn, TimesBy}
 use Rattle.planner.specs.Graded.{Graded}

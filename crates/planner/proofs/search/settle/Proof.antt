@@ -1,15 +1,12 @@
 -- `search::settle` meets its contract: the front of the latest trains is lowered, the rest stays, and the front is tested. Assumes nothing.
 use borrow.Author.Needs.{needs}
-use mathlib.Core.Path.{_≡_, refl, sym, ap, _∙_, subst}
-use mathlib.Core.List.{List, _++_}
+use mathlib.Core.Path.{_≡_}
 use Prim.Native.Nat.{ℕ}
 use mir.Syntax.{w64}
 use mir.Facts.{toZ-ofZ}
 use native.Mathlib.Omega.{arith}
-use lib.ListN.{length, take, drop, length-take, length-append, length-drop}
-use lib.Seq.{take-at}
+use lib.ListN.{length, length-take, length-append, length-drop}
 use Rattle.numbers.specs.Counting.{at, nth}
-use Rattle.rounds.specs.Lowering.{lower, crowded}
 use Rattle.planner.specs.SettleLaws.{settled, settled-most}
 use Rattle.planner.proofs.search.settle.Statement.{statement}
 use Rattle.planner.proofs.search.settle.Tie as tie

@@ -11,7 +11,7 @@ use Rattle.numbers.specs.Counting.{at}
 use Rattle.rounds.specs.Timing.{ready, earliest, departed, departures}
 use Rattle.planner.specs.TimingLaws.{bounded-none, bounded-next, within-window, departures-first, departures-stop, departures-next}
 use Rattle.planner.specs.Departing.{stays, leaves}
-use Rattle.planner.specs.Columns.{windowsIn}
+use Rattle.admission.specs.Columns.{windowsIn}
 use Rattle.planner.specs.Bounds.{AtMost}
 use Rattle.planner.proofs.timing.departures_by_windows.Statement.{statement}
 use Rattle.planner.proofs.timing.departures_by_windows.Tie as tie

@@ -7,7 +7,7 @@ use Rattle.numbers.specs.Counting.{at, nth}
 use Rattle.model.specs.Arrival.{arrivalBehind}
 use Rattle.rounds.specs.Timing.{ready, none, departed, departures}
 use Rattle.planner.specs.TimingLaws.{departing-none, departing-all, windows-halt, windows-run, row-all, bounded-arrivals, no-stop}
-use Rattle.planner.specs.Columns.{windowsIn}
+use Rattle.admission.specs.Columns.{windowsIn}
 use Rattle.planner.proofs.timing.times_by_windows.Statement.{statement}
 use Rattle.planner.proofs.timing.times_by_windows.Tie as tie
 

@@ -1,6 +1,6 @@
 -- `fields::put_decimal` meets its contract: by recursion on the number without its last digit, which falls. Assumes nothing.
-use mathlib.Core.List.{[], _∷_, _++_}
-use Rattle.printer.specs.Writing.{state, pass}
+use mathlib.Core.List.{[], _∷_}
+use Rattle.printer.specs.Writing.{state}
 use Rattle.printer.specs.WritingLaws.{pass-more}
 use Rattle.printer.specs.Decimal.{digit, decimal}
 use Rattle.printer.specs.DecimalLaws.{decimal-one, decimal-more}

@@ -1,6 +1,6 @@
 -- `fields::number_field` meets its contract: the two passes join. Assumes nothing.
-use mathlib.Core.List.{[], _∷_, _++_}
-use Rattle.printer.specs.Writing.{state, pass}
+use mathlib.Core.List.{[], _∷_}
+use Rattle.printer.specs.Writing.{state}
 use Rattle.printer.specs.WritingLaws.{pass-then}
 use Rattle.printer.specs.Decimal.{decimal}
 use borrow.Author.Needs.{needs}

@@ -1,8 +1,6 @@
 -- `fields::put` meets its contract: each return is one case of a byte in the pass. Assumes nothing.
-use Prim.Native.Nat.{_<_, _≤_}
-use mathlib.Core.Path.{_≡_, refl, sym, ap, _∙_}
+use mathlib.Core.Path.{sym}
 use native.Mathlib.Omega.{arith}
-use lib.ListN.{length}
 use Rattle.printer.specs.WritingLaws.{put-past, put-short, put-written, put-counted}
 use borrow.Author.Needs.{needs}
 use Rattle.printer.proofs.fields.put.Statement.{statement}

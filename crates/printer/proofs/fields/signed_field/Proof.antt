@@ -1,11 +1,11 @@
 -- `fields::signed_field` meets its contract: a number below 0 is a minus and its size, another is its size. Assumes nothing.
 use Prim.Native.Nat.{ℕ}
-use mathlib.Core.Path.{_≡_, refl, sym, ap, _∙_}
-use mathlib.Core.List.{[], _∷_, _++_}
+use mathlib.Core.Path.{_≡_, sym, ap, _∙_}
+use mathlib.Core.List.{[], _∷_}
 use lib.IntN.{natAbs}
 use mir.Facts.{toZ-ofZ}
 use mir.Syntax.{w64}
-use Rattle.printer.specs.Writing.{state, pass}
+use Rattle.printer.specs.Writing.{state}
 use Rattle.printer.specs.WritingLaws.{pass-then, pass-same}
 use Rattle.printer.specs.Lines.{field}
 use Rattle.printer.specs.Decimal.{decimal}

@@ -1,10 +1,9 @@
 -- `fields::size_of` meets its contract: each step of the sum fits, and the last is the size. Assumes nothing.
-use mathlib.Core.Path.{_≡_, refl, sym, ap, _∙_}
+use mathlib.Core.Path.{sym}
 use native.Mathlib.Omega.{arith}
 use mir.Facts.{toZ-ofZ, fits-natAbs}
 use mir.Syntax.{w64}
 use Rattle.printer.specs.SizeLaws.{sized, not-negative}
-use borrow.Author.Needs.{needs}
 use Rattle.printer.proofs.fields.size_of.Statement.{statement}
 use Rattle.printer.proofs.fields.size_of.Tie as tie
 

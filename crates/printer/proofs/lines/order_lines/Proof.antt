@@ -1,6 +1,6 @@
 -- `lines::order_lines` meets its contract: the loop's invariant is that the lines passed are put. Assumes nothing.
-use Prim.Native.Nat.{_≤_, _-_, _+_, _*_, _/_}
-use mathlib.Core.Path.{_≡_, refl, sym, ap, _∙_}
+use Prim.Native.Nat.{_≤_, _-_, _+_}
+use mathlib.Core.Path.{_≡_, refl}
 use native.Mathlib.Omega.{arith}
 use lib.ListN.{length, getD}
 use Rattle.printer.specs.Writing.{state, pass}

@@ -1,5 +1,4 @@
 -- `lines::order_name` meets its contract: the sheet's naming call of the form gives the bytes. Assumes nothing.
-use mathlib.Core.Path.{_≡_, refl, sym, ap, _∙_}
 use Rattle.printer.specs.Lines.{name-of}
 use borrow.Author.Needs.{needs}
 use Rattle.printer.proofs.lines.order_name.Statement.{statement}

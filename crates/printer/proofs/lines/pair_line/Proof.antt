@@ -1,10 +1,10 @@
 -- `lines::pair_line` meets its contract: the passes of its fields join. Assumes nothing.
-use mathlib.Core.Path.{_≡_, refl, sym, ap, _∙_}
+use mathlib.Core.Path.{ap}
 use mathlib.Core.List.{[], _∷_, _++_}
 use lib.IntN.{ℤ}
 use mir.Facts.{toZ-ofZ}
 use mir.Syntax.{w64}
-use Rattle.printer.specs.Writing.{state, pass}
+use Rattle.printer.specs.Writing.{state}
 use Rattle.printer.specs.WritingLaws.{pass-then, pass-same}
 use Rattle.printer.specs.Decimal.{signed}
 use Rattle.printer.specs.Lines.{pair-line, field}

@@ -1,6 +1,6 @@
 -- `lines::pair_lines` meets its contract: the loop's invariant is that the lines passed are put. Assumes nothing.
 use Prim.Native.Nat.{_≤_, _-_, _+_, _*_, _/_}
-use mathlib.Core.Path.{_≡_, refl, sym, ap, _∙_}
+use mathlib.Core.Path.{_≡_, refl, ap, _∙_}
 use native.Mathlib.Omega.{arith}
 use lib.ListN.{length, getD}
 use lib.IntN.{ℤ, pos}

@@ -1,6 +1,6 @@
 -- `lines::rounds_line` meets its contract: the passes of its fields join. Assumes nothing.
 use mathlib.Core.List.{[], _∷_, _++_}
-use Rattle.printer.specs.Writing.{state, pass}
+use Rattle.printer.specs.Writing.{state}
 use Rattle.printer.specs.WritingLaws.{pass-then}
 use Rattle.printer.specs.Decimal.{decimal}
 use Rattle.printer.specs.Lines.{rounds-line, field}
