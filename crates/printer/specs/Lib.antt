@@ -6,4 +6,6 @@ pub mod Writing
 pub mod WritingLaws
 pub mod SizeLaws
 pub mod LengthLaws
+pub mod Names
+pub mod NameLaws
 pub mod CaseLaws

@@ -61,10 +61,14 @@ unfolding order-line
 order-lines name trains zero = []
 order-lines name trains (suc k) = order-lines name trains k ++ order-line (name (suc k)) (getD trains k 0)
 
--- P, D, L and R lines; a lone last number of the pairs or of the times is passed over
+-- P, D, L and R lines, where the orders have these names; a lone last number of the pairs or of the times is passed over
+unfoldable pub plan-named : (name : ℕ → List ℕ) (pairs : List ℤ) (trains times : List ℕ) (rounds : ℕ) → List ℕ
+unfolding pair-lines time-lines order-lines rounds-line
+plan-named name pairs trains times rounds =
+    pair-lines pairs (length pairs / 2) ++ time-lines times (length times / 2) ++ order-lines name trains (length trains) ++ rounds-line rounds
+
+-- with the names from the sheet's text
 unfoldable pub plan-bytes :
     (text : List ℕ) (by-timetable : Bool) (pairs : List ℤ) (trains times : List ℕ) (rounds : ℕ) → List ℕ
-unfolding pair-lines time-lines name-of order-lines rounds-line
-plan-bytes text by-timetable pairs trains times rounds =
-    pair-lines pairs (length pairs / 2) ++ time-lines times (length times / 2)
-    ++ order-lines (name-of by-timetable text) trains (length trains) ++ rounds-line rounds
+unfolding name-of plan-named
+plan-bytes text by-timetable pairs trains times rounds = plan-named (name-of by-timetable text) pairs trains times rounds

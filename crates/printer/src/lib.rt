@@ -3,8 +3,13 @@ mod fields;
 mod lines;
 
 use model::Refusal;
+use sheet::Form;
+use sheet::NamePlaces;
 ghost use mathlib.Core.Path.{_≡_};
-ghost use Rattle.printer.specs.Lines.{plan-bytes, refusal-line};
+ghost use mathlib.Core.Bool.{cond};
+ghost use Rattle.sheet.specs.OrderNames.{namesIn};
+ghost use Rattle.printer.specs.Lines.{plan-named, plan-bytes, refusal-line};
+ghost use Rattle.printer.specs.Names.{name-by, NamesLie};
 ghost use Rattle.printer.specs.Writing.{Prints, state, pass};
 
 // Where the next byte goes in the buffer, or that a byte did not fit.
@@ -33,9 +38,15 @@ pub fn print_plan(
     ensures { λ r. ⌜ Prints (plan-bytes (now (text .entry)) «by_timetable» (now (pairs .entry)) (now («train_of_order» .entry)) (now (times .entry)) rounds)
         (now (out .entry)) r (now (out .exit)) ⌝ }
 {
+    let names = names_of(text, by_timetable);
+    let count = names.count;
+    let start = names.start;
+    let long = names.length;
     let end = plan_lines(
         text,
-        by_timetable,
+        count,
+        &start,
+        &long,
         pairs,
         train_of_order,
         times,
@@ -48,7 +59,9 @@ pub fn print_plan(
     };
     plan_lines(
         text,
-        by_timetable,
+        count,
+        &start,
+        &long,
         pairs,
         train_of_order,
         times,
@@ -71,10 +84,22 @@ pub fn print_refusal(refusal: Refusal, out: &mut [u8]) -> Printed
     Printed::Bytes(length)
 }
 
+// Where the names of a text's orders stand.
+fn names_of(text: &[u8], by_timetable: bool) -> NamePlaces
+    ensures { λ r. ⌜ r ≡ namesIn (cond «by_timetable» Form.Timetable Form.Windows) (now (text .entry)) ⌝ }
+{
+    if by_timetable {
+        return sheet::name_places(text, Form::Timetable);
+    }
+    sheet::name_places(text, Form::Windows)
+}
+
 // All lines of a plan, from the front of the buffer.
 fn plan_lines(
     text: &[u8],
-    by_timetable: bool,
+    count: usize,
+    start: &[usize],
+    long: &[usize],
     pairs: &[i64],
     train_of_order: &[u8],
     times: &[u32],
@@ -82,8 +107,9 @@ fn plan_lines(
     out: &mut [u8],
     writing: bool,
 ) -> Place
+    requires { ⌜ NamesLie (now text) count (now start) (now long) ⌝ }
     ensures { λ r. ⌜ state r (now (out .exit)) ≡
-        pass writing (plan-bytes (now (text .entry)) «by_timetable» (now (pairs .entry)) (now («train_of_order» .entry)) (now (times .entry)) rounds)
+        pass writing (plan-named (name-by (now (text .entry)) count (now (start .entry)) (now (long .entry))) (now (pairs .entry)) (now («train_of_order» .entry)) (now (times .entry)) rounds)
         (state (Place.At 0) (now (out .entry))) ⌝ }
 {
     let behind_pairs = lines::pair_lines(out, Place::At(0), writing, pairs);
@@ -93,7 +119,9 @@ fn plan_lines(
         behind_times,
         writing,
         text,
-        by_timetable,
+        count,
+        start,
+        long,
         train_of_order,
     );
     lines::rounds_line(out, behind_orders, writing, rounds)

@@ -9,7 +9,8 @@ ghost use mathlib.Core.Path.{_≡_};
 ghost use Prim.Native.Nat.{_/_};
 ghost use lib.ListN.{length};
 ghost use Rattle.model.specs.Refusal.{number, returned};
-ghost use Rattle.printer.specs.Lines.{pair-line, time-line, order-line, rounds-line, refusal-line, pair-lines, time-lines, order-lines, name-of};
+ghost use Rattle.printer.specs.Lines.{pair-line, time-line, order-line, rounds-line, refusal-line, pair-lines, time-lines, order-lines};
+ghost use Rattle.printer.specs.Names.{name-by, NamesLie};
 ghost use Rattle.printer.specs.Writing.{state, pass};
 
 fn pair_line(out: &mut [u8], place: Place, writing: bool, last: i64, worst: i64) -> Place
@@ -80,14 +81,27 @@ fn order_line(out: &mut [u8], place: Place, writing: bool, name: &[u8], train: u
     put(out, second, writing, 10)
 }
 
-// The name of an order of a text of either form.
-fn order_name(text: &[u8], by_timetable: bool, order: usize) -> &[u8]
-    ensures { λ r. ⌜ r .now ≡ name-of «by_timetable» (now (text .entry)) order ⌝ }
+// The name of an order, as that part of the text; the empty part if there is no such order.
+fn name_at<'a, 'b, 'c>(
+    text: &'a [u8],
+    count: usize,
+    start: &'b [usize],
+    long: &'c [usize],
+    order: usize,
+) -> &'a [u8]
+    requires { ⌜ NamesLie (now text) count (now start) (now long) ⌝ }
+    ensures { λ r. ⌜ r .now ≡ name-by (now (text .entry)) count (now (start .entry)) (now (long .entry)) order ⌝ }
 {
-    if by_timetable {
-        return sheet::order_name_in_timetable(text, order);
+    if order < 1 {
+        return &text[0..0];
     }
-    sheet::order_name_in_windows(text, order)
+    if count < order {
+        return &text[0..0];
+    }
+    let place = order - 1;
+    let first = start[place];
+    let end = first + long[place];
+    &text[first..end]
 }
 
 // The L lines.
@@ -96,17 +110,20 @@ pub fn order_lines(
     place: Place,
     writing: bool,
     text: &[u8],
-    by_timetable: bool,
+    count: usize,
+    start: &[usize],
+    long: &[usize],
     trains: &[u8],
 ) -> Place
+    requires { ⌜ NamesLie (now text) count (now start) (now long) ⌝ }
     ensures { λ r. ⌜ state r (now (out .exit)) ≡
-        pass writing (order-lines (name-of «by_timetable» (now (text .entry))) (now (trains .entry)) (length (now (trains .entry)))) (state place (now (out .entry))) ⌝ }
+        pass writing (order-lines (name-by (now (text .entry)) count (now (start .entry)) (now (long .entry))) (now (trains .entry)) (length (now (trains .entry)))) (state place (now (out .entry))) ⌝ }
 {
     let mut behind = place;
     let mut i: usize = 0;
     while i < trains.len() {
         let order = i + 1;
-        let name = order_name(text, by_timetable, order);
+        let name = name_at(text, count, start, long, order);
         behind = order_line(out, behind, writing, name, trains[i]);
         i = order;
     }

@@ -14,7 +14,7 @@ use model::TimetableSheet;
 use model::WindowSheet;
 ghost use mathlib.Core.Path.{_≡_};
 ghost use Rattle.sheet.specs.Sheets.{windowReading, timetableReading};
-ghost use Rattle.sheet.specs.OrderNames.{IsPart, nameIn, placeOf};
+ghost use Rattle.sheet.specs.OrderNames.{IsPart, nameIn, namesIn, placeOf};
 
 // The two forms of a sheet. The contracts of the naming calls name it.
 pub enum Form {
@@ -110,6 +110,13 @@ pub struct TimetableReading {
 pub struct NamePlace {
     pub start: usize,
     pub length: usize,
+}
+
+// Where the names of a text's orders start, and how many bytes they have: the first `count` elements of each column.
+pub struct NamePlaces {
+    pub count: usize,
+    pub start: [usize; 200],
+    pub length: [usize; 200],
 }
 
 // The O lines so far, in columns; each order's name by its place in the text.
@@ -222,4 +229,20 @@ fn order_name_place(text: &[u8], order: usize, form: Form) -> NamePlace
     let lines = found.lines;
     let orders = lines.orders;
     order_lines::name_place(orders, order)
+}
+
+// Where all names stand, for a caller that wants every one: the text is read once.
+pub fn name_places(text: &[u8], form: Form) -> NamePlaces
+    ensures { λ r. ⌜ r ≡ namesIn form (now (text .entry)) ⌝ }
+{
+    let found = text_reader::whole(text, form);
+    let lines = found.lines;
+    let orders = lines.orders;
+    let start = orders.name_start;
+    let length = orders.name_length;
+    NamePlaces {
+        count: orders.count,
+        start: start,
+        length: length,
+    }
 }
