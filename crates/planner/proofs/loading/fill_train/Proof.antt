@@ -8,8 +8,7 @@ use lib.ListN.{length, set, length-set}
 use borrow.Author.Needs.{needs}
 use Rattle.numbers.specs.Counting.{at, nth}
 use Rattle.rounds.specs.Loading.{pick, put, take-orders}
-use Rattle.planner.specs.Ranks.{rankOf}
-use Rattle.planner.specs.RankLaws.{pick-low, unpicked, picked-low, picked-place, picked-some}
+use Rattle.planner.specs.RankLaws.{leads, leads-nowhere}
 use Rattle.planner.specs.LoadingStepLaws.{put-picked, take-turn, take-done, take-none}
 use Rattle.planner.proofs.loading.fill_train.Statement.{statement}
 use Rattle.planner.proofs.loading.fill_train.Tie as tie
@@ -36,13 +35,8 @@ returns : tie.Need-returns Inv-loop μ-loop
 returns c =
     let a = c .before .before .before .before .before .before .before .before .before .args in
     let l = c .before .before .before .before .loop in
-    let n = length (a .train .now) in
-    let r = at (a .ranks .now) in
-    let t = a .latest .now in
-    let b = pick r t (l .train) (a .i) n in
-    let is : c .before .pick-rank .result ≡ rankOf r b = c .before .pick-rank .ensures ∙ ap (λ m. rankOf r (pick r t (l .train) (a .i) m)) (l .inv .1) in
-    let none : b ≡ 0 = unpicked n (a .ranks .now) (a .places .now) (c .before .before .before .before .before .before .before .before .before .pre .0) b (pick-low r t (l .train) (a .i) n) (sym is ∙ c .if1 .taken) in
-    sym (take-none n r t (a .i) (a .k - l .taken) (l .train) none) ∙ l .inv .2
+    let none = leads-nowhere (length (a .train .now)) (a .ranks .now) (a .places .now) (c .before .before .before .before .before .before .before .before .before .pre .0) (a .latest .now) (l .train) (a .i) (length (l .train)) (l .inv .1) (c .before .pick-rank .result) (c .before .pick-rank .ensures) (c .if1 .taken) in
+    sym (take-none (length (a .train .now)) (at (a .ranks .now)) (a .latest .now) (a .i) (a .k - l .taken) (l .train) none) ∙ l .inv .2
 
 sub-m : tie.Need-sub-m Inv-loop μ-loop
 sub-m c = search needs
@@ -54,42 +48,22 @@ shared-slice-read-j : tie.Need-shared-slice-read-j Inv-loop μ-loop
 shared-slice-read-j c =
     let a = c .before .before .before .before .before .before .before .before .before .before .args in
     let l = c .before .before .before .before .before .loop in
-    let n = length (a .train .now) in
-    let r = at (a .ranks .now) in
-    let t = a .latest .now in
-    let b = pick r t (l .train) (a .i) n in
-    let is : c .before .before .pick-rank .result ≡ rankOf r b = c .before .before .pick-rank .ensures ∙ ap (λ m. rankOf r (pick r t (l .train) (a .i) m)) (l .inv .1) in
-    omega (arith, is, picked-low n (a .ranks .now) (a .places .now) (c .before .before .before .before .before .before .before .before .before .before .pre .0) b (pick-low r t (l .train) (a .i) n), c .before .before .before .before .before .before .before .before .before .before .pre .0 .places-match, c .before .if1 .left)
+    let t = leads (length (a .train .now)) (a .ranks .now) (a .places .now) (c .before .before .before .before .before .before .before .before .before .before .pre .0) (a .latest .now) (l .train) (a .i) (length (l .train)) (l .inv .1) (c .before .before .pick-rank .result) (c .before .before .pick-rank .ensures) (c .before .if1 .left) in
+    omega (arith, t .rank-few, c .before .before .before .before .before .before .before .before .before .before .pre .0 .places-match, c .before .if1 .left)
 
 cast-j : tie.Need-cast-j Inv-loop μ-loop
 cast-j c =
     let a = c .before .before .before .before .before .before .before .before .before .before .args in
     let l = c .before .before .before .before .before .loop in
-    let n = length (a .train .now) in
-    let r = at (a .ranks .now) in
-    let t = a .latest .now in
-    let b = pick r t (l .train) (a .i) n in
-    let is : c .before .before .pick-rank .result ≡ rankOf r b = c .before .before .pick-rank .ensures ∙ ap (λ m. rankOf r (pick r t (l .train) (a .i) m)) (l .inv .1) in
-    let some : rankOf r b ≡ 0 → ⊥ = λ e. c .before .if1 .left (is ∙ e) in
-    let low : b ≤ n = pick-low r t (l .train) (a .i) n in
-    let place : nth (a .places .now) (c .before .before .pick-rank .result) ≡ b - 1 =
-    ap (nth (a .places .now)) is ∙ picked-place n (a .ranks .now) (a .places .now) (c .before .before .before .before .before .before .before .before .before .before .pre .0) b low some in
-    omega (arith, place, low)
+    let t = leads (length (a .train .now)) (a .ranks .now) (a .places .now) (c .before .before .before .before .before .before .before .before .before .before .pre .0) (a .latest .now) (l .train) (a .i) (length (l .train)) (l .inv .1) (c .before .before .pick-rank .result) (c .before .before .pick-rank .ensures) (c .before .if1 .left) in
+    omega (arith, t .place, t .order-few)
 
 slice-write-train : tie.Need-slice-write-train Inv-loop μ-loop
 slice-write-train c =
     let a = c .before .before .before .before .before .before .before .before .before .before .args in
     let l = c .before .before .before .before .before .loop in
-    let n = length (a .train .now) in
-    let r = at (a .ranks .now) in
-    let t = a .latest .now in
-    let b = pick r t (l .train) (a .i) n in
-    let is : c .before .before .pick-rank .result ≡ rankOf r b = c .before .before .pick-rank .ensures ∙ ap (λ m. rankOf r (pick r t (l .train) (a .i) m)) (l .inv .1) in
-    let some : rankOf r b ≡ 0 → ⊥ = λ e. c .before .if1 .left (is ∙ e) in
-    let low : b ≤ n = pick-low r t (l .train) (a .i) n in
-    let place : nth (a .places .now) (c .before .before .pick-rank .result) ≡ b - 1 =
-    ap (nth (a .places .now)) is ∙ picked-place n (a .ranks .now) (a .places .now) (c .before .before .before .before .before .before .before .before .before .before .pre .0) b low some in
-    omega (arith, place, low, picked-some n (a .ranks .now) (a .places .now) (c .before .before .before .before .before .before .before .before .before .before .pre .0) b some, l .inv .1)
+    let t = leads (length (a .train .now)) (a .ranks .now) (a .places .now) (c .before .before .before .before .before .before .before .before .before .before .pre .0) (a .latest .now) (l .train) (a .i) (length (l .train)) (l .inv .1) (c .before .before .pick-rank .result) (c .before .before .pick-rank .ensures) (c .before .if1 .left) in
+    omega (arith, t .place, t .order-few, t .some, l .inv .1)
 
 add-taken : tie.Need-add-taken Inv-loop μ-loop
 add-taken c = search needs
@@ -101,20 +75,16 @@ loop-again : tie.Need-loop-again Inv-loop μ-loop
 loop-again c =
     let a = c .before .before .before .before .before .before .before .before .before .before .args in
     let l = c .before .before .before .before .before .loop in
+    let t = leads (length (a .train .now)) (a .ranks .now) (a .places .now) (c .before .before .before .before .before .before .before .before .before .before .pre .0) (a .latest .now) (l .train) (a .i) (length (l .train)) (l .inv .1) (c .before .before .pick-rank .result) (c .before .before .pick-rank .ensures) (c .before .if1 .left) in
     let n = length (a .train .now) in
     let r = at (a .ranks .now) in
-    let t = a .latest .now in
-    let b = pick r t (l .train) (a .i) n in
-    let is : c .before .before .pick-rank .result ≡ rankOf r b = c .before .before .pick-rank .ensures ∙ ap (λ m. rankOf r (pick r t (l .train) (a .i) m)) (l .inv .1) in
-    let some : rankOf r b ≡ 0 → ⊥ = λ e. c .before .if1 .left (is ∙ e) in
-    let low : b ≤ n = pick-low r t (l .train) (a .i) n in
-    let place : nth (a .places .now) (c .before .before .pick-rank .result) ≡ b - 1 =
-    ap (nth (a .places .now)) is ∙ picked-place n (a .ranks .now) (a .places .now) (c .before .before .before .before .before .before .before .before .before .before .pre .0) b low some in
-    let put-on : set (l .train) (nth (a .places .now) (c .before .before .pick-rank .result)) (a .i) ≡ put (l .train) (a .i) b =
-    ap (λ j. set (l .train) j (a .i)) place ∙ put-picked (l .train) (a .i) b (picked-some n (a .ranks .now) (a .places .now) (c .before .before .before .before .before .before .before .before .before .before .pre .0) b some) in (
+    let put-on : set (l .train) (nth (a .places .now) (c .before .before .pick-rank .result)) (a .i) ≡ put (l .train) (a .i) (pick r (a .latest .now) (l .train) (a .i) n) =
+    ap (λ j. set (l .train) j (a .i)) (t .place) ∙ put-picked (l .train) (a .i) (pick r (a .latest .now) (l .train) (a .i) n) (t .some) in (
       omega arith,
       length-set (l .train) (nth (a .places .now) (c .before .before .pick-rank .result)) (a .i) ∙ l .inv .1,
-      ap (take-orders n r t (a .i) (a .k - (l .taken + 1))) put-on ∙ sym (take-turn n r t (a .i) (a .k) (l .taken) (l .train) (omega arith)) ∙ l .inv .2,
+      ap (take-orders n r (a .latest .now) (a .i) (a .k - (l .taken + 1))) put-on
+          ∙ sym (take-turn n r (a .latest .now) (a .i) (a .k) (l .taken) (l .train) (omega arith))
+          ∙ l .inv .2,
     )
 
 same-length-2 : tie.Need-same-length-2 Inv-loop μ-loop
