@@ -1,23 +1,25 @@
 -- From the rounds to the reply. Assumes nothing.
 use mathlib.Core.Path.{_≡_, refl, sym, ap, _∙_, subst}
+use mathlib.Core.Logic.{_⊎_, inl, inr}
 use mathlib.Core.Bool.{true, false}
 use mathlib.Core.List.{List, [], _∷_}
 use Prim.Native.Nat.{ℕ, zero, suc, _+_, _-_, _*_, _≤_}
 use native.Mathlib.Omega.{arith}
 use native.Mathlib.Numerals.{add-one}
 use lib.IntN.{ℤ}
-use lib.ListN.{length, take, replicate, length-append}
+use lib.ListN.{length, take, replicate, length-append, length-replicate}
 use Rattle.numbers.specs.Counting.{at}
+use Rattle.numbers.specs.Decides.{decided, decides-eq, cond-yes, cond-no}
 use Rattle.model.specs.Sheet.{Sheet}
 use Rattle.model.specs.declared.Reply.the-variants.{Planned, Refused}
 use Rattle.model.specs.declared.Refusal.the-variants.{NoSchedule, RoundLimit}
 use Rattle.rounds.specs.Recording.{Recorded, nothing, recorded, listed}
-use Rattle.rounds.specs.Rounds.{Search, ended, above-everything, start, round, rounds, search, Answer, refused, answer, plan}
+use Rattle.rounds.specs.Rounds.{Search, ended, start, round, rounds, search, Answer, refused, answer, plan}
 use Rattle.rounds.specs.RoundsLaws.{rounds-ended}
 use Rattle.rounds.specs.Areas.{reply, areas-after, pair-numbers}
 use Rattle.planner.specs.Bounds.{AtMost}
 use Rattle.planner.specs.Held.{lastOf, trainsOf, timesOf}
-use Rattle.planner.specs.Shows.{Holds, Shows, goes-on, has-ended}
+use Rattle.planner.specs.Shows.{Holds, Shows, goes-on, has-ended, Fresh, outcomeOf}
 use Rattle.planner.specs.ShowsLaws.{one-outcome}
 use Rattle.planner.specs.Told.{areas, Told}
 use Rattle.planner.specs.declared.search.Progress.{Progress}
@@ -46,6 +48,20 @@ module _ (s : Sheet) where
       let m : s .orders * s .trains ≡ k + j = omega arith in
       ap answer (ap (λ (m : ℕ). rounds s m (start s)) m ∙ further k j (start s) ∙ ap (rounds s j) e ∙ rounds-ended s j c found)
 
+-- before the first round each latest train is q
+first-latest : (n m v : ℕ) → n ≤ m → take n (replicate m v) ≡ replicate n v
+first-latest zero m v l = refl
+first-latest (suc n) zero v l = absurd (omega arith)
+first-latest (suc n) (suc m) v l = ap (λ (t : List ℕ). v ∷ t) (first-latest n m v (omega arith))
+
+all-at-most : (n v : ℕ) → AtMost v (replicate n v)
+all-at-most n v = record { below = λ j. go n j }
+  where
+    go : (n j : ℕ) → at (replicate n v) j ≤ v
+    go zero j = omega arith
+    go (suc n) zero = omega arith
+    go (suc n) (suc j) = go n j
+
 -- THE LOOP'S INVARIANT, with k rounds made
 pub record Turn (S : Sheet) (s : Progress) (P : List ℤ) (A T : List ℕ) (P₀ : List ℤ) (A₀ T₀ : List ℕ) (k : ℕ) : Type 0 where
   pub shows : Shows (S .orders) (S .trains) s P A T P₀ A₀ T₀ (rounds S k (start S))
@@ -57,18 +73,18 @@ pub record Turn (S : Sheet) (s : Progress) (P : List ℤ) (A T : List ℕ) (P₀
 
 module _ (S : Sheet) (P₀ : List ℤ) (A₀ T₀ : List ℕ) where
   -- before the first round
-  pub first-turn : (s : Progress) → s .ended ≡ false → s .limit ≡ above-everything → s .last ≡ 0 → s .pairs ≡ 0 → s .rounds ≡ 0
-      → take (S .orders) (s .latest) ≡ replicate (S .orders) (S .trains) → length (s .latest) ≡ 200 → AtMost (S .trains) (take (S .orders) (s .latest))
-      → Turn S s P₀ A₀ T₀ P₀ A₀ T₀ 0
+  pub first-turn : (s : Progress) → S .orders ≤ 200 → Fresh (S .trains) s → Turn S s P₀ A₀ T₀ P₀ A₀ T₀ 0
   unfolding rounds start lastOf listed trainsOf timesOf pair-numbers
-  first-turn s e l a p c t long most =
+  first-turn s few f =
+      let t : take (S .orders) (s .latest) ≡ replicate (S .orders) (S .trains) = ap (take (S .orders)) (f .latest-is) ∙ first-latest (S .orders) 200 (S .trains) few in
       record {
-        shows = goes-on {found = nothing} e t l (record { rounds-made = c; pairs-listed = p; last-arrival = a; short = omega arith; areas = record { of-pairs = refl; of-trains = refl; of-times = refl } });
-        live = e;
-        pairs-few = omega arith;
-        rounds-few = omega arith;
-        long = long;
-        most = most;
+        shows = goes-on {found = nothing} (f .going-on) t (f .limit-is)
+            (record { rounds-made = f .rounds-is; pairs-listed = f .pairs-is; last-arrival = f .last-is; short = omega arith; areas = record { of-pairs = refl; of-trains = refl; of-times = refl } });
+        live = f .going-on;
+        pairs-few = omega (arith, f .pairs-is);
+        rounds-few = omega (arith, f .rounds-is);
+        long = ap (λ l. length l) (f .latest-is) ∙ length-replicate 200 (S .trains);
+        most = subst (λ (l : List ℕ). AtMost (S .trains) l) (sym t) (all-at-most (S .orders) (S .trains));
       }
 
   module _ (s : Progress) (P : List ℤ) (A T : List ℕ) where
@@ -105,15 +121,18 @@ module _ (S : Sheet) (P₀ : List ℤ) (A₀ T₀ : List ℕ) where
         go x u (has-ended {c} {found} f h) = plan-at-end S k c found l u ∙ ap answer (sym u)
 
     -- what is told at the end, after k rounds
-    pub ends-none : (k : ℕ) → k ≤ S .orders * S .trains → Shows (S .orders) (S .trains) s P A T P₀ A₀ T₀ (rounds S k (start S)) → s .ended ≡ true → s .pairs ≡ 0
-        → Told S (plan S) (Refused NoSchedule) (areas P A T) (areas P₀ A₀ T₀)
-    ends-none k l sh e z =
-        subst (λ (x : Answer). Told S x (Refused NoSchedule) (areas P A T) (areas P₀ A₀ T₀)) (sym (answer-at-end k l sh e)) (told-none (rounds S k (start S)) sh e z)
+    pub ends : (k : ℕ) → k ≤ S .orders * S .trains → Shows (S .orders) (S .trains) s P A T P₀ A₀ T₀ (rounds S k (start S)) → s .ended ≡ true
+        → Told S (plan S) (outcomeOf (s .pairs) (s .rounds)) (areas P A T) (areas P₀ A₀ T₀)
+    ends k l sh e =
+        subst (λ (x : Answer). Told S x (outcomeOf (s .pairs) (s .rounds)) (areas P A T) (areas P₀ A₀ T₀)) (sym (answer-at-end k l sh e))
+        (go (decided (decides-eq (s .pairs) 0)))
+      where
+        x : Search
+        x = rounds S k (start S)
 
-    pub ends-planned : (k : ℕ) → k ≤ S .orders * S .trains → Shows (S .orders) (S .trains) s P A T P₀ A₀ T₀ (rounds S k (start S)) → s .ended ≡ true → ¬ (s .pairs ≡ 0)
-        → Told S (plan S) (Planned (s .pairs) (s .rounds)) (areas P A T) (areas P₀ A₀ T₀)
-    ends-planned k l sh e z =
-        subst (λ (x : Answer). Told S x (Planned (s .pairs) (s .rounds)) (areas P A T) (areas P₀ A₀ T₀)) (sym (answer-at-end k l sh e)) (told-planned (rounds S k (start S)) sh e z)
+        go : (s .pairs ≡ 0) ⊎ (¬ (s .pairs ≡ 0)) → Told S (answer x) (outcomeOf (s .pairs) (s .rounds)) (areas P A T) (areas P₀ A₀ T₀)
+        go (inl z) = rw (cond-yes (decides-eq (s .pairs) 0) z (Refused NoSchedule) (Planned (s .pairs) (s .rounds))) (told-none x sh e z)
+        go (inr z) = rw (cond-no (decides-eq (s .pairs) 0) z (Refused NoSchedule) (Planned (s .pairs) (s .rounds))) (told-planned x sh e z)
 
     -- one round more
     pub next-shows : (r : Progress) (P′ : List ℤ) (A′ T′ : List ℕ) (k : ℕ) → Shows (S .orders) (S .trains) s P A T P₀ A₀ T₀ (rounds S k (start S))
@@ -130,18 +149,3 @@ module _ (S : Sheet) (P₀ : List ℤ) (A₀ T₀ : List ℕ) where
         go : (x : Search) → x ≡ rounds S (S .orders * S .trains) (start S) → Shows (S .orders) (S .trains) s P A T P₀ A₀ T₀ x → plan S ≡ refused RoundLimit
         go x e (goes-on f a b h) = ap answer (sym e)
         go x e (has-ended f h) = absurd (one-outcome (s .ended) f live)
-
--- ---- before the first round each latest train is q
-
-pub first-latest : (n m v : ℕ) → n ≤ m → take n (replicate m v) ≡ replicate n v
-first-latest zero m v l = refl
-first-latest (suc n) zero v l = absurd (omega arith)
-first-latest (suc n) (suc m) v l = ap (λ (t : List ℕ). v ∷ t) (first-latest n m v (omega arith))
-
-pub first-most : (n m v : ℕ) → n ≤ m → AtMost v (take n (replicate m v))
-first-most n m v l = subst (λ (t : List ℕ). AtMost v t) (sym (first-latest n m v l)) (record { below = λ j. go n j })
-  where
-    go : (n j : ℕ) → at (replicate n v) j ≤ v
-    go zero j = omega arith
-    go (suc n) zero = omega arith
-    go (suc n) (suc j) = go n j

@@ -1,13 +1,17 @@
 -- What the code's progress and the lent areas show of a search of document 01's rounds.
 use mathlib.Core.Path.{_≡_}
-use mathlib.Core.Bool.{true, false}
+use mathlib.Core.Bool.{true, false, cond}
 use mathlib.Core.List.{List}
 use Prim.Native.Nat.{ℕ, _+_, _*_, _≤_, _<_}
+use lib.Dec.{eqb}
 use lib.IntN.{ℤ}
-use lib.ListN.{length, take}
+use lib.ListN.{length, take, replicate}
+use Rattle.model.specs.declared.Refusal.the-variants.{NoSchedule}
+use Rattle.model.specs.declared.Reply.{Reply}
+use Rattle.model.specs.declared.Reply.the-variants.{Planned, Refused}
 use Rattle.rounds.specs.Recording.{Recorded, listed}
 use Rattle.rounds.specs.Lowering.{lower, crowded}
-use Rattle.rounds.specs.Rounds.{Search, going, ended}
+use Rattle.rounds.specs.Rounds.{Search, going, ended, above-everything}
 use Rattle.planner.specs.Bounds.{AtMost}
 use Rattle.planner.specs.Held.{Held, lastOf, trainsOf}
 use Rattle.planner.specs.declared.search.Progress.{Progress}
@@ -54,3 +58,16 @@ pub record Room (n q pairs trains times : ℕ) : Type 0 where
   pub pairs-room : 2 * (n * q) ≤ pairs
   pub trains-room : n ≤ trains
   pub times-room : 2 * q ≤ times
+
+-- the progress before the first round, with q trains
+pub record Fresh (q : ℕ) (s : Progress) : Type 0 where
+  pub latest-is : s .latest ≡ replicate 200 q
+  pub limit-is : s .limit ≡ above-everything
+  pub last-is : s .last ≡ 0
+  pub pairs-is : s .pairs ≡ 0
+  pub rounds-is : s .rounds ≡ 0
+  pub going-on : s .ended ≡ false
+
+-- what is told of a search that has ended: "no schedule (step 2 stops round 1)", or how many pairs and rounds
+abbrev pub outcomeOf : (pairs rounds : ℕ) → Reply
+outcomeOf pairs rounds = cond (eqb pairs 0) (Refused NoSchedule) (Planned pairs rounds)

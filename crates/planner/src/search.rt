@@ -22,7 +22,7 @@ ghost use Rattle.admission.specs.Columns.{sheetIn};
 ghost use Rattle.planner.specs.Clocked.{Clocked};
 ghost use Rattle.planner.specs.Lent.{formIn, TimesBy, OrderColumns};
 ghost use Rattle.planner.specs.Ranks.{Ranked};
-ghost use Rattle.planner.specs.Shows.{Shows, Settled, Ready, Room};
+ghost use Rattle.planner.specs.Shows.{Shows, Settled, Ready, Room, Fresh, outcomeOf};
 ghost use Rattle.planner.specs.Graded.{Graded};
 ghost use Rattle.planner.specs.Told.{areas, Told};
 
@@ -246,6 +246,34 @@ fn round(
     }
 }
 
+// Before the first round: every order may ride the last train.
+fn start(trains: u8) -> Progress
+    ensures { λ r. ⌜ Fresh trains r ⌝ }
+{
+    let latest = [trains; 200];
+    Progress {
+        latest: latest,
+        limit: 1000000000,
+        last: 0,
+        pairs: 0,
+        rounds: 0,
+        ended: false,
+    }
+}
+
+// What is told of a search that has ended with this many pairs and rounds.
+fn outcome(pairs: usize, rounds: usize) -> Reply
+    ensures { λ r. ⌜ r ≡ outcomeOf pairs rounds ⌝ }
+{
+    if pairs == 0 {
+        return Reply::Refused(Refusal::NoSchedule);
+    }
+    Reply::Planned {
+        pairs: pairs,
+        rounds: rounds,
+    }
+}
+
 // The rounds of an admitted sheet, to their end.
 pub fn all_rounds(
     by_timetable: bool,
@@ -283,15 +311,7 @@ pub fn all_rounds(
     let mut train = [0u8; 200];
     let mut departure = [0u32; 32];
     let mut arrival = [0u32; 32];
-    let latest = [q as u8; 200];
-    let mut s = Progress {
-        latest: latest,
-        limit: 1000000000,
-        last: 0,
-        pairs: 0,
-        rounds: 0,
-        ended: false,
-    };
+    let mut s = start(q as u8);
     let mut k: usize = 0;
     while k < most {
         s = round(
@@ -317,13 +337,7 @@ pub fn all_rounds(
             times,
         );
         if s.ended {
-            if s.pairs == 0 {
-                return Reply::Refused(Refusal::NoSchedule);
-            }
-            return Reply::Planned {
-                pairs: s.pairs,
-                rounds: s.rounds,
-            };
+            return outcome(s.pairs, s.rounds);
         }
         k += 1;
     }

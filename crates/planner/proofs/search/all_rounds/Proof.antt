@@ -1,16 +1,20 @@
 -- `search::all_rounds` meets its contract: after k turns the progress and the areas show the search after k rounds; the limit is never met. Assumes
 -- nothing.
-use mathlib.Core.Path.{_≡_, refl}
-use Prim.Native.Nat.{ℕ, _+_, _*_, _-_, _≤_}
+use borrow.Author.Needs.{needs}
+use mathlib.Core.Path.{_≡_, refl, sym, subst}
+use Prim.Native.Nat.{_+_, _*_, _-_, _≤_}
 use native.Mathlib.Omega.{arith}
 use native.Mathlib.Nat.{mul-le-mul}
 use lib.ListN.{length, length-take, length-append, length-drop}
 use Rattle.model.specs.Sheet.{Sheet}
+use Rattle.model.specs.declared.Reply.{Reply}
+use Rattle.rounds.specs.Rounds.{plan}
 use Rattle.front.specs.Front.{never-cut-off}
 use Rattle.admission.specs.Columns.{sheetIn}
 use Rattle.planner.specs.Lent.{TimeColumns, formIn}
 use Rattle.planner.specs.RankLaws.{ranks-room, places-room, ranks-front, places-front, ranked-front}
-use Rattle.planner.specs.RunLaws.{Turn, first-turn, first-latest, first-most, next-shows, ends-none, ends-planned, cut-off}
+use Rattle.planner.specs.Told.{areas, Told}
+use Rattle.planner.specs.RunLaws.{Turn, first-turn, next-shows, ends, cut-off}
 use Rattle.planner.proofs.search.all_rounds.Statement.{statement}
 use Rattle.planner.proofs.search.all_rounds.Tie as tie
 
@@ -43,19 +47,19 @@ slice-aggregate-rank-orders-2 c = simp length-take (omega (arith, c .before .bef
 rank-orders-requires : tie.Need-rank-orders-requires Inv-loop μ-loop
 rank-orders-requires c κs = (simp length-take (omega (arith, c .before .before .before .before .before .before .before .before .before .before .before .before .before .pre .1 .0 .orders-most)), simp length-take (omega (arith, c .before .before .before .before .before .before .before .before .before .before .before .before .before .pre .1 .0 .orders-most)), c .before .before .before .before .before .before .before .before .before .before .before .before .before .pre .1 .0 .orders-most)
 
-cast-latest : tie.Need-cast-latest Inv-loop μ-loop
-cast-latest c = omega (arith, c .before .before .before .before .before .before .before .before .before .before .before .before .before .before .before .before .pre .1 .0 .trains-most)
+cast-start : tie.Need-cast-start Inv-loop μ-loop
+cast-start c = omega (arith, c .before .before .before .before .before .before .before .before .before .before .before .before .before .before .before .before .pre .1 .0 .trains-most)
+
+start-requires : tie.Need-start-requires Inv-loop μ-loop
+start-requires c κs = search needs
 
 loop-holds : tie.Need-loop-holds Inv-loop μ-loop
 loop-holds c =
-    let b = c .before .before .before .before .before .before .before .before .before .before .before .before .before .before .before .before in
+    let b = c .before .before .before .before .before .before .before .before .before .before .before .before .before .before .before .before .before in
     let a = b .args in
     let T : TimeColumns = record { by-timetable = a .by-timetable; gap = a .gap; from = a .from .now; to = a .to .now; running = a .running .now; departure = a .fixed-departure .now; arrival = a .fixed-arrival .now } in
-    let S : Sheet = sheetIn (a .capacity .now) (a .release .now) (a .due .now) (a .weight .now) (formIn T) in
-    let n : ℕ = length (a .release .now) in
-    let q : ℕ = length (a .capacity .now) in (
-      first-turn S (a .pairs .now) (a .train-of-order .now) (a .times .now) _ refl refl refl refl refl
-          (first-latest n 200 q (b .pre .1 .0 .orders-most)) refl (first-most n 200 q (b .pre .1 .0 .orders-most)),
+    let S : Sheet = sheetIn (a .capacity .now) (a .release .now) (a .due .now) (a .weight .now) (formIn T) in (
+      first-turn S (a .pairs .now) (a .train-of-order .now) (a .times .now) (c .start .result) (b .pre .1 .0 .orders-most) (c .start .ensures),
       omega arith,
       refl,
       refl,
@@ -66,38 +70,38 @@ loop-holds c =
     )
 
 array-share-prefix-ranks : tie.Need-array-share-prefix-ranks Inv-loop μ-loop
-array-share-prefix-ranks c = ranks-room (c .before .before .before .before .rank-orders .ensures) _
+array-share-prefix-ranks c = ranks-room (c .before .before .before .before .before .rank-orders .ensures) _
 
 slice-aggregate-round : tie.Need-slice-aggregate-round Inv-loop μ-loop
-slice-aggregate-round c = ranks-front (c .before .before .before .before .before .rank-orders .ensures) _
+slice-aggregate-round c = ranks-front (c .before .before .before .before .before .before .rank-orders .ensures) _
 
 array-share-prefix-places : tie.Need-array-share-prefix-places Inv-loop μ-loop
-array-share-prefix-places c = places-room (c .before .before .before .before .before .rank-orders .ensures) _
+array-share-prefix-places c = places-room (c .before .before .before .before .before .before .rank-orders .ensures) _
 
 slice-aggregate-round-2 : tie.Need-slice-aggregate-round-2 Inv-loop μ-loop
-slice-aggregate-round-2 c = places-front (c .before .before .before .before .before .before .rank-orders .ensures) _
+slice-aggregate-round-2 c = places-front (c .before .before .before .before .before .before .before .rank-orders .ensures) _
 
 array-borrow-prefix-train : tie.Need-array-borrow-prefix-train Inv-loop μ-loop
-array-borrow-prefix-train c = omega (arith, c .before .before .before .before .before .before .before .before .before .before .before .before .before .before .before .before .before .before .before .before .pre .1 .0 .orders-most, c .before .before .before .loop .inv)
+array-borrow-prefix-train c = omega (arith, c .before .before .before .before .before .before .before .before .before .before .before .before .before .before .before .before .before .before .before .before .before .pre .1 .0 .orders-most, c .before .before .before .loop .inv)
 
 slice-aggregate-round-3 : tie.Need-slice-aggregate-round-3 Inv-loop μ-loop
-slice-aggregate-round-3 c = simp length-take (omega (arith, c .before .before .before .before .before .before .before .before .before .before .before .before .before .before .before .before .before .before .before .before .before .pre .1 .0 .orders-most, c .before .before .before .before .loop .inv))
+slice-aggregate-round-3 c = simp length-take (omega (arith, c .before .before .before .before .before .before .before .before .before .before .before .before .before .before .before .before .before .before .before .before .before .before .pre .1 .0 .orders-most, c .before .before .before .before .loop .inv))
 
 array-borrow-prefix-departure : tie.Need-array-borrow-prefix-departure Inv-loop μ-loop
-array-borrow-prefix-departure c = omega (arith, c .before .before .before .before .before .before .before .before .before .before .before .before .before .before .before .before .before .before .before .before .before .pre .1 .0 .trains-most, c .before .before .before .before .loop .inv)
+array-borrow-prefix-departure c = omega (arith, c .before .before .before .before .before .before .before .before .before .before .before .before .before .before .before .before .before .before .before .before .before .before .pre .1 .0 .trains-most, c .before .before .before .before .loop .inv)
 
 slice-aggregate-round-4 : tie.Need-slice-aggregate-round-4 Inv-loop μ-loop
-slice-aggregate-round-4 c = simp length-take (omega (arith, c .before .before .before .before .before .before .before .before .before .before .before .before .before .before .before .before .before .before .before .before .before .before .pre .1 .0 .trains-most, c .before .before .before .before .before .loop .inv))
+slice-aggregate-round-4 c = simp length-take (omega (arith, c .before .before .before .before .before .before .before .before .before .before .before .before .before .before .before .before .before .before .before .before .before .before .before .pre .1 .0 .trains-most, c .before .before .before .before .before .loop .inv))
 
 array-borrow-prefix-arrival : tie.Need-array-borrow-prefix-arrival Inv-loop μ-loop
-array-borrow-prefix-arrival c = omega (arith, c .before .before .before .before .before .before .before .before .before .before .before .before .before .before .before .before .before .before .before .before .before .before .pre .1 .0 .trains-most, c .before .before .before .before .before .loop .inv)
+array-borrow-prefix-arrival c = omega (arith, c .before .before .before .before .before .before .before .before .before .before .before .before .before .before .before .before .before .before .before .before .before .before .before .pre .1 .0 .trains-most, c .before .before .before .before .before .loop .inv)
 
 slice-aggregate-round-5 : tie.Need-slice-aggregate-round-5 Inv-loop μ-loop
-slice-aggregate-round-5 c = simp length-take (omega (arith, c .before .before .before .before .before .before .before .before .before .before .before .before .before .before .before .before .before .before .before .before .before .before .before .pre .1 .0 .trains-most, c .before .before .before .before .before .before .loop .inv))
+slice-aggregate-round-5 c = simp length-take (omega (arith, c .before .before .before .before .before .before .before .before .before .before .before .before .before .before .before .before .before .before .before .before .before .before .before .before .pre .1 .0 .trains-most, c .before .before .before .before .before .before .loop .inv))
 
 round-requires : tie.Need-round-requires Inv-loop μ-loop
 round-requires c κs =
-    let b = c .before .before .before .before .before .before .before .before .before .before .before .before .before .before .before .before .before .before .before .before .before .before .before .before .before .before in
+    let b = c .before .before .before .before .before .before .before .before .before .before .before .before .before .before .before .before .before .before .before .before .before .before .before .before .before .before .before in
     let p = b .pre .1 .0 in
     let room = b .pre .1 .1 .0 in
     let i = c .before .before .before .before .before .before .before .before .before .loop .inv in
@@ -119,70 +123,49 @@ round-requires c κs =
             latest-long = i .0 .long;
             latest-most = i .0 .most;
           },
-          ranked-front (c .before .before .before .before .before .before .before .before .before .before .before .before .rank-orders .ensures) _ _,
+          ranked-front (c .before .before .before .before .before .before .before .before .before .before .before .before .before .rank-orders .ensures) _ _,
         ),
       ),
     )
 
+outcome-requires : tie.Need-outcome-requires Inv-loop μ-loop
+outcome-requires c κs = search needs
+
 same-length : tie.Need-same-length Inv-loop μ-loop
-same-length c = omega (arith, c .before .before .before .before .before .before .before .before .before .before .before .round .kept, c .before .before .before .before .before .before .before .before .before .before .before .before .before .before .before .before .before .before .before .before .before .loop .inv)
+same-length c = omega (arith, c .before .before .before .before .before .before .before .before .before .before .round .kept, c .before .before .before .before .before .before .before .before .before .before .before .before .before .before .before .before .before .before .before .before .loop .inv)
 
 same-length-2 : tie.Need-same-length-2 Inv-loop μ-loop
-same-length-2 c = omega (arith, c .before .before .before .before .before .before .before .before .before .before .before .round .kept, c .before .before .before .before .before .before .before .before .before .before .before .before .before .before .before .before .before .before .before .before .before .loop .inv)
+same-length-2 c = omega (arith, c .before .before .before .before .before .before .before .before .before .before .round .kept, c .before .before .before .before .before .before .before .before .before .before .before .before .before .before .before .before .before .before .before .before .loop .inv)
 
 same-length-3 : tie.Need-same-length-3 Inv-loop μ-loop
-same-length-3 c = omega (arith, c .before .before .before .before .before .before .before .before .before .before .before .round .kept, c .before .before .before .before .before .before .before .before .before .before .before .before .before .before .before .before .before .before .before .before .before .loop .inv)
+same-length-3 c = omega (arith, c .before .before .before .before .before .before .before .before .before .before .round .kept, c .before .before .before .before .before .before .before .before .before .before .before .before .before .before .before .before .before .before .before .before .loop .inv)
 
 returns : tie.Need-returns Inv-loop μ-loop
 returns c =
     let b = c .before .before .before .before .before .before .before .before .before .before .before .before .before .before .before .before .before .before .before .before .before .before .before .before .before .before .before .before .before .before .before .before .before .before .before .before .before .before in
     let a = b .args in
-    let l = c .before .before .before .before .before .before .before .before .before .before .before .before .before .before .before .before .before .before .before .before .before .loop in
-    let r = c .before .before .before .before .before .before .before .before .before .before .before .round in
+    let l = c .before .before .before .before .before .before .before .before .before .before .before .before .before .before .before .before .before .before .before .before .loop in
+    let r = c .before .before .before .before .before .before .before .before .before .before .round in
     let T : TimeColumns = record { by-timetable = a .by-timetable; gap = a .gap; from = a .from .now; to = a .to .now; running = a .running .now; departure = a .fixed-departure .now; arrival = a .fixed-arrival .now } in
     let S : Sheet = sheetIn (a .capacity .now) (a .release .now) (a .due .now) (a .weight .now) (formIn T) in
     let P′ = r .last .1 .1 .1 .1 .1 .1 .1 .1 .1 .1 .1 .1 .1 .1 .1 .1 .1 .0 in
     let A′ = r .last .1 .1 .1 .1 .1 .1 .1 .1 .1 .1 .1 .1 .1 .1 .1 .1 .1 .1 .0 in
     let T′ = r .last .1 .1 .1 .1 .1 .1 .1 .1 .1 .1 .1 .1 .1 .1 .1 .1 .1 .1 .1 .0 in
-    ends-none S (a .pairs .now) (a .train-of-order .now) (a .times .now) (r .result) P′ A′ T′ (l .k + 1) (omega (arith, c .before .before .before .before .before .before .before .before .before .before .before .before .before .before .before .before .before .before .before .before .loop-test .taken))
+    subst (λ (x : Reply). Told S (plan S) x (areas P′ A′ T′) (areas (a .pairs .now) (a .train-of-order .now) (a .times .now))) (sym (c .outcome .ensures))
+    (ends S (a .pairs .now) (a .train-of-order .now) (a .times .now) (r .result) P′ A′ T′ (l .k + 1) (omega (arith, c .before .before .before .before .before .before .before .before .before .before .before .before .before .before .before .before .before .before .before .loop-test .taken))
     (next-shows S (a .pairs .now) (a .train-of-order .now) (a .times .now) (l .s) (l .pairs) (l .train-of-order) (l .times) (r .result) P′ A′ T′ (l .k) (l .inv .0 .shows)
     (λ x h. r .ensures .0 x (a .pairs .now) (a .train-of-order .now) (a .times .now) h))
-    (c .before .before .if1 .taken) (c .if2 .taken)
-
-same-length-4 : tie.Need-same-length-4 Inv-loop μ-loop
-same-length-4 c = omega (arith, c .before .before .before .before .before .before .before .before .before .before .before .round .kept, c .before .before .before .before .before .before .before .before .before .before .before .before .before .before .before .before .before .before .before .before .before .loop .inv)
-
-same-length-5 : tie.Need-same-length-5 Inv-loop μ-loop
-same-length-5 c = omega (arith, c .before .before .before .before .before .before .before .before .before .before .before .round .kept, c .before .before .before .before .before .before .before .before .before .before .before .before .before .before .before .before .before .before .before .before .before .loop .inv)
-
-same-length-6 : tie.Need-same-length-6 Inv-loop μ-loop
-same-length-6 c = omega (arith, c .before .before .before .before .before .before .before .before .before .before .before .round .kept, c .before .before .before .before .before .before .before .before .before .before .before .before .before .before .before .before .before .before .before .before .before .loop .inv)
-
-returns-2 : tie.Need-returns-2 Inv-loop μ-loop
-returns-2 c =
-    let b = c .before .before .before .before .before .before .before .before .before .before .before .before .before .before .before .before .before .before .before .before .before .before .before .before .before .before .before .before .before .before .before .before .before .before .before .before .before .before in
-    let a = b .args in
-    let l = c .before .before .before .before .before .before .before .before .before .before .before .before .before .before .before .before .before .before .before .before .before .loop in
-    let r = c .before .before .before .before .before .before .before .before .before .before .before .round in
-    let T : TimeColumns = record { by-timetable = a .by-timetable; gap = a .gap; from = a .from .now; to = a .to .now; running = a .running .now; departure = a .fixed-departure .now; arrival = a .fixed-arrival .now } in
-    let S : Sheet = sheetIn (a .capacity .now) (a .release .now) (a .due .now) (a .weight .now) (formIn T) in
-    let P′ = r .last .1 .1 .1 .1 .1 .1 .1 .1 .1 .1 .1 .1 .1 .1 .1 .1 .1 .0 in
-    let A′ = r .last .1 .1 .1 .1 .1 .1 .1 .1 .1 .1 .1 .1 .1 .1 .1 .1 .1 .1 .0 in
-    let T′ = r .last .1 .1 .1 .1 .1 .1 .1 .1 .1 .1 .1 .1 .1 .1 .1 .1 .1 .1 .1 .0 in
-    ends-planned S (a .pairs .now) (a .train-of-order .now) (a .times .now) (r .result) P′ A′ T′ (l .k + 1) (omega (arith, c .before .before .before .before .before .before .before .before .before .before .before .before .before .before .before .before .before .before .before .before .loop-test .taken))
-    (next-shows S (a .pairs .now) (a .train-of-order .now) (a .times .now) (l .s) (l .pairs) (l .train-of-order) (l .times) (r .result) P′ A′ T′ (l .k) (l .inv .0 .shows)
-    (λ x h. r .ensures .0 x (a .pairs .now) (a .train-of-order .now) (a .times .now) h))
-    (c .before .before .if1 .taken) (c .if2 .left)
+    (c .before .if1 .taken))
 
 add-k : tie.Need-add-k Inv-loop μ-loop
-add-k c = omega (arith, c .before .before .before .before .before .before .before .before .before .before .before .before .before .before .before .before .before .before .loop-test .taken, mul-le-mul (c .before .before .before .before .before .before .before .before .before .before .before .before .before .before .before .before .before .before .before .before .before .before .before .before .before .before .before .before .before .before .before .before .before .before .before .before .pre .1 .0 .orders-most) (c .before .before .before .before .before .before .before .before .before .before .before .before .before .before .before .before .before .before .before .before .before .before .before .before .before .before .before .before .before .before .before .before .before .before .before .before .pre .1 .0 .trains-most))
+add-k c = omega (arith, c .before .before .before .before .before .before .before .before .before .before .before .before .before .before .before .before .before .before .loop-test .taken, mul-le-mul (c .before .before .before .before .before .before .before .before .before .before .before .before .before .before .before .before .before .before .before .before .before .before .before .before .before .before .before .before .before .before .before .before .before .before .before .before .before .pre .1 .0 .orders-most) (c .before .before .before .before .before .before .before .before .before .before .before .before .before .before .before .before .before .before .before .before .before .before .before .before .before .before .before .before .before .before .before .before .before .before .before .before .before .pre .1 .0 .trains-most))
 
 loop-less : tie.Need-loop-less Inv-loop μ-loop
 loop-less c = omega (arith, c .before .before .before .before .before .before .before .before .before .before .before .before .before .before .before .before .before .before .loop-test .taken)
 
 loop-again : tie.Need-loop-again Inv-loop μ-loop
 loop-again c =
-    let b = c .before .before .before .before .before .before .before .before .before .before .before .before .before .before .before .before .before .before .before .before .before .before .before .before .before .before .before .before .before .before .before .before .before .before .before .before in
+    let b = c .before .before .before .before .before .before .before .before .before .before .before .before .before .before .before .before .before .before .before .before .before .before .before .before .before .before .before .before .before .before .before .before .before .before .before .before .before in
     let a = b .args in
     let p = b .pre .1 .0 in
     let l = c .before .before .before .before .before .before .before .before .before .before .before .before .before .before .before .before .before .before .before .loop in
@@ -212,18 +195,18 @@ loop-again c =
       omega (arith, k, l .inv),
     )
 
-same-length-7 : tie.Need-same-length-7 Inv-loop μ-loop
-same-length-7 c = omega (arith, c .before .loop .inv)
+same-length-4 : tie.Need-same-length-4 Inv-loop μ-loop
+same-length-4 c = omega (arith, c .before .loop .inv)
 
-same-length-8 : tie.Need-same-length-8 Inv-loop μ-loop
-same-length-8 c = omega (arith, c .before .loop .inv)
+same-length-5 : tie.Need-same-length-5 Inv-loop μ-loop
+same-length-5 c = omega (arith, c .before .loop .inv)
 
-same-length-9 : tie.Need-same-length-9 Inv-loop μ-loop
-same-length-9 c = omega (arith, c .before .loop .inv)
+same-length-6 : tie.Need-same-length-6 Inv-loop μ-loop
+same-length-6 c = omega (arith, c .before .loop .inv)
 
-returns-3 : tie.Need-returns-3 Inv-loop μ-loop
-returns-3 c =
-    let b = c .before .before .before .before .before .before .before .before .before .before .before .before .before .before .before .before .before .before in
+returns-2 : tie.Need-returns-2 Inv-loop μ-loop
+returns-2 c =
+    let b = c .before .before .before .before .before .before .before .before .before .before .before .before .before .before .before .before .before .before .before in
     let a = b .args in
     let l = c .before .loop in
     let T : TimeColumns = record { by-timetable = a .by-timetable; gap = a .gap; from = a .from .now; to = a .to .now; running = a .running .now; departure = a .fixed-departure .now; arrival = a .fixed-arrival .now } in
@@ -244,7 +227,8 @@ all-rounds-spec =
     array-borrow-prefix-places
     slice-aggregate-rank-orders-2
     rank-orders-requires
-    cast-latest
+    cast-start
+    start-requires
     loop-holds
     array-share-prefix-ranks
     slice-aggregate-round
@@ -257,18 +241,15 @@ all-rounds-spec =
     array-borrow-prefix-arrival
     slice-aggregate-round-5
     round-requires
+    outcome-requires
     same-length
     same-length-2
     same-length-3
     returns
-    same-length-4
-    same-length-5
-    same-length-6
-    returns-2
     add-k
     loop-less
     loop-again
-    same-length-7
-    same-length-8
-    same-length-9
-    returns-3)
+    same-length-4
+    same-length-5
+    same-length-6
+    returns-2)
