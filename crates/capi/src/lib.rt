@@ -45,47 +45,11 @@ pub struct Planning {
 fn cause_of(refusal: Refusal) -> Cause
     ensures { λ r. ⌜ r ≡ causeOf refusal ⌝ }
 {
-    match refusal {
-        Refusal::Malformed(line) => Cause {
-            number: 1,
-            returned: line,
-        },
-        Refusal::OutOfRange(line) => Cause {
-            number: 2,
-            returned: line,
-        },
-        Refusal::KindTooEarly(line) => Cause {
-            number: 3,
-            returned: line,
-        },
-        Refusal::TooMany(line) => Cause {
-            number: 4,
-            returned: line,
-        },
-        Refusal::KindMissing => Cause {
-            number: 5,
-            returned: 0,
-        },
-        Refusal::OutOfOrder(line) => Cause {
-            number: 6,
-            returned: line,
-        },
-        Refusal::PlacesDiffer => Cause {
-            number: 7,
-            returned: 0,
-        },
-        Refusal::NoSchedule => Cause {
-            number: 8,
-            returned: 0,
-        },
-        Refusal::RoundLimit => Cause {
-            number: 9,
-            returned: 0,
-        },
-        Refusal::AreaTooShort => Cause {
-            number: 10,
-            returned: 0,
-        },
+    let number = model::refusal_number(refusal);
+    let returned = model::refusal_returned(refusal);
+    Cause {
+        number: number,
+        returned: returned,
     }
 }
 

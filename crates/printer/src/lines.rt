@@ -8,7 +8,6 @@ use model::Refusal;
 ghost use mathlib.Core.Path.{_≡_};
 ghost use Prim.Native.Nat.{_/_};
 ghost use lib.ListN.{length};
-ghost use Rattle.model.specs.Refusal.{number, returned};
 ghost use Rattle.printer.specs.Lines.{pair-line, time-line, order-line, rounds-line, refusal-line, pair-lines, time-lines, order-lines};
 ghost use Rattle.printer.specs.Names.{name-by, NamesLie};
 ghost use Rattle.printer.specs.Writing.{state, pass};
@@ -138,49 +137,14 @@ pub fn rounds_line(out: &mut [u8], place: Place, writing: bool, rounds: usize) -
     put(out, first, writing, 10)
 }
 
-// The number of a refusal's cause.
-fn cause_number(refusal: Refusal) -> u64
-    ensures { λ r. ⌜ r ≡ number refusal ⌝ }
-{
-    match refusal {
-        Refusal::Malformed(_) => 1,
-        Refusal::OutOfRange(_) => 2,
-        Refusal::KindTooEarly(_) => 3,
-        Refusal::TooMany(_) => 4,
-        Refusal::KindMissing => 5,
-        Refusal::OutOfOrder(_) => 6,
-        Refusal::PlacesDiffer => 7,
-        Refusal::NoSchedule => 8,
-        Refusal::RoundLimit => 9,
-        Refusal::AreaTooShort => 10,
-    }
-}
-
-// What a refusal returns.
-fn returned_by(refusal: Refusal) -> usize
-    ensures { λ r. ⌜ r ≡ returned refusal ⌝ }
-{
-    match refusal {
-        Refusal::Malformed(line) => line,
-        Refusal::OutOfRange(line) => line,
-        Refusal::KindTooEarly(line) => line,
-        Refusal::TooMany(line) => line,
-        Refusal::KindMissing => 0,
-        Refusal::OutOfOrder(line) => line,
-        Refusal::PlacesDiffer => 0,
-        Refusal::NoSchedule => 0,
-        Refusal::RoundLimit => 0,
-        Refusal::AreaTooShort => 0,
-    }
-}
-
 // The E line.
 pub fn refusal_line(out: &mut [u8], place: Place, writing: bool, refusal: Refusal) -> Place
     ensures { λ r. ⌜ state r (now (out .exit)) ≡ pass writing (refusal-line refusal) (state place (now (out .entry))) ⌝ }
 {
     let kind = put(out, place, writing, 69);
-    let first = number_field(out, kind, writing, cause_number(refusal));
-    let returned = returned_by(refusal);
+    let number = model::refusal_number(refusal);
+    let first = number_field(out, kind, writing, number as u64);
+    let returned = model::refusal_returned(refusal);
     let second = number_field(out, first, writing, returned as u64);
     put(out, second, writing, 10)
 }

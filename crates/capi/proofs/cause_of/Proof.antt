@@ -1,89 +1,16 @@
--- `cause_of` meets its contract: each arm has the numbers of its cause. Assumes nothing.
-use borrow.Author.Needs.{needs}
+-- `cause_of` meets its contract: the model's calls give the two numbers. Assumes nothing.
 use Rattle.capi.proofs.cause_of.Statement.{statement}
 use Rattle.capi.proofs.cause_of.Tie as tie
+use borrow.Author.Needs.{needs}
 
-enum-known-refusal : tie.Need-enum-known-refusal
-enum-known-refusal c = search needs
+refusal-number-requires : tie.Need-refusal-number-requires
+refusal-number-requires c κs = search needs
 
-enum-known-refusal-2 : tie.Need-enum-known-refusal-2
-enum-known-refusal-2 c = search needs
-
-enum-known-refusal-3 : tie.Need-enum-known-refusal-3
-enum-known-refusal-3 c = search needs
-
-enum-known-refusal-4 : tie.Need-enum-known-refusal-4
-enum-known-refusal-4 c = search needs
-
-enum-told : tie.Need-enum-told
-enum-told c = search needs
-
-enum-known-refusal-5 : tie.Need-enum-known-refusal-5
-enum-known-refusal-5 c = search needs
-
-enum-told-2 : tie.Need-enum-told-2
-enum-told-2 c = search needs
-
-enum-told-3 : tie.Need-enum-told-3
-enum-told-3 c = search needs
-
-enum-told-4 : tie.Need-enum-told-4
-enum-told-4 c = search needs
-
-enum-told-5 : tie.Need-enum-told-5
-enum-told-5 c = search needs
+refusal-returned-requires : tie.Need-refusal-returned-requires
+refusal-returned-requires c κs = search needs
 
 returns : tie.Need-returns
-returns c = rw (c .before .refusal .given .1)
-
-returns-2 : tie.Need-returns-2
-returns-2 c = rw (c .before .refusal2 .given .1)
-
-returns-3 : tie.Need-returns-3
-returns-3 c = rw (c .before .refusal3 .given .1)
-
-returns-4 : tie.Need-returns-4
-returns-4 c = rw (c .before .refusal4 .given .1)
-
-returns-5 : tie.Need-returns-5
-returns-5 c = rw (c .enum-told .given .1)
-
-returns-6 : tie.Need-returns-6
-returns-6 c = rw (c .before .refusal5 .given .1)
-
-returns-7 : tie.Need-returns-7
-returns-7 c = rw (c .enum-told2 .given .1)
-
-returns-8 : tie.Need-returns-8
-returns-8 c = rw (c .enum-told3 .given .1)
-
-returns-9 : tie.Need-returns-9
-returns-9 c = rw (c .enum-told4 .given .1)
-
-returns-10 : tie.Need-returns-10
-returns-10 c = rw (c .enum-told5 .given .1)
+returns c = rw (c .before .refusal-number .ensures, c .refusal-returned .ensures)
 
 pub cause-of-spec : {M : Type 1} → statement M
-cause-of-spec =
-    tie.close
-    (tie.spec
-    enum-known-refusal
-    enum-known-refusal-2
-    enum-known-refusal-3
-    enum-known-refusal-4
-    enum-told
-    enum-known-refusal-5
-    enum-told-2
-    enum-told-3
-    enum-told-4
-    enum-told-5
-    returns
-    returns-2
-    returns-3
-    returns-4
-    returns-5
-    returns-6
-    returns-7
-    returns-8
-    returns-9
-    returns-10)
+cause-of-spec = tie.close (tie.spec refusal-number-requires refusal-returned-requires returns)
