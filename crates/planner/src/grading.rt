@@ -94,12 +94,12 @@ pub fn lower_all(latest: &mut [u8], due: &[u32], weight: &[u32], arrival: &[u32]
     }
 }
 
-// Whether more orders than these places have a latest train ≤ i.
+// Whether more orders than these places have a latest train ≤ i. The loop reads and counts bytes only, so that it runs many orders at once.
 fn crowded_at(latest: &[u8], i: u8, places: u32) -> bool
     requires { ⌜ length (now latest) ≤ 200 ⌝ }
     ensures { λ r. ⌜ r ≡ ltb places (count (λ j. leb (at (now (latest .entry)) j) i) (length (now (latest .entry)))) ⌝ }
 {
-    let mut orders: u32 = 0;
+    let mut orders: u8 = 0;
     let mut j: usize = 0;
     while j < latest.len() {
         if latest[j] <= i {
@@ -107,7 +107,7 @@ fn crowded_at(latest: &[u8], i: u8, places: u32) -> bool
         }
         j += 1;
     }
-    places < orders
+    places < (orders as u32)
 }
 
 // Whether for some i from 0 to q more than K_i orders have a latest train ≤ i.

@@ -51,6 +51,12 @@ loop-again c =
           (c .if1 .came),
     )
 
+cast-result : tie.Need-cast-result Inv-loop μ-loop
+cast-result c =
+    let a = c .before .before .args in
+    let l = c .before .loop in
+    omega (arith, count-le (λ m. leb (at (a .latest .now) m) (a .i)) (l .j), l .inv .1, l .inv .0)
+
 returns : tie.Need-returns Inv-loop μ-loop
 returns c =
     let a = c .before .before .args in
@@ -68,4 +74,5 @@ crowded-at-spec =
     add-j
     loop-less
     loop-again
+    cast-result
     returns)
