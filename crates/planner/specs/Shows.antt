@@ -40,6 +40,14 @@ pub record Settled (n q : ℕ) (weight due capacity F : ℕ → ℕ) (latest : L
   pub rounds-is : r .rounds ≡ rounds
   pub ended-is : r .ended ≡ crowded n capacity (lower n weight due F y (take n latest)) q
 
+-- the progress after step 2 stops the round
+pub record Stopped (s r : Progress) : Type 0 where
+  pub latest-is : r .latest ≡ s .latest
+  pub last-is : r .last ≡ s .last
+  pub pairs-is : r .pairs ≡ s .pairs
+  pub rounds-is : r .rounds ≡ s .rounds + 1
+  pub over : r .ended ≡ true
+
 -- what a round asks of the progress and of the lengths of the lists that it is lent
 pub record Ready (n q : ℕ) (s : Progress) (train departure arrival pairs trains times : ℕ) : Type 0 where
   pub train-match : train ≡ n

@@ -18,7 +18,7 @@ use Rattle.planner.specs.Clocked.{Clocked, halts, runs}
 use Rattle.planner.specs.Held.{Held, Kept, withPlan, lastOf, trainsOf}
 use Rattle.planner.specs.RecordingLaws.{last-of, trains-of}
 use Rattle.planner.specs.Graded.{Graded, records, passes}
-use Rattle.planner.specs.Shows.{Holds, Shows, goes-on, has-ended, Settled}
+use Rattle.planner.specs.Shows.{Holds, Shows, goes-on, has-ended, Settled, Stopped}
 use Rattle.planner.specs.declared.search.Progress.{Progress}
 
 -- a test has one outcome
@@ -75,18 +75,17 @@ module _ (S : Sheet) (pairs₀ : List ℤ) (trains₀ times₀ : List ℕ) where
 
     -- step 2 stops the round
     pub round-stops : Clocked departure arrival (times S train) false → P′ ≡ P → A′ ≡ A → T′ ≡ T
-        → r .ended ≡ true → r .rounds ≡ s .rounds + 1 → r .pairs ≡ s .pairs → r .last ≡ s .last
-        → (x : Search) → Showing s P A T x → Showing r P′ A′ T′ (round S x)
+        → Stopped s r → (x : Search) → Showing s P A T x → Showing r P′ A′ T′ (round S x)
     unfolding depart
-    round-stops k eP eA eT re rr rp rl x sh = at-timing x sh (λ c latest found u h. go c latest found h (times S train) k)
+    round-stops k eP eA eT st x sh = at-timing x sh (λ c latest found u h. go c latest found h (times S train) k)
       where
         go : (c : ℕ) (latest : List ℕ) (found : Recorded) → Holding s P A T c found → (t : Timed) → Clocked departure arrival t false
             → Showing r P′ A′ T′ (depart S (suc c) latest (s .limit) found train t)
         go c latest found h t halts =
             let count : s .rounds + 1 ≡ suc c = omega (arith, h .rounds-made) in
             rw (eP, eA, eT)
-            (has-ended re
-            (record { rounds-made = rr ∙ count; pairs-listed = rp ∙ h .pairs-listed; last-arrival = rl ∙ h .last-arrival; short = h .short; areas = h .areas }))
+            (has-ended (st .over)
+            (record { rounds-made = st .rounds-is ∙ count; pairs-listed = st .pairs-is ∙ h .pairs-listed; last-arrival = st .last-is ∙ h .last-arrival; short = h .short; areas = h .areas }))
 
     module _ (k : Clocked departure arrival (times S train) true) (z : ℤ) (ez : z ≡ worst S train (nth arrival)) where
       abbrev F : ℕ → ℕ

@@ -22,7 +22,7 @@ ghost use Rattle.admission.specs.Columns.{sheetIn};
 ghost use Rattle.planner.specs.Clocked.{Clocked};
 ghost use Rattle.planner.specs.Lent.{formIn, TimesBy, OrderColumns};
 ghost use Rattle.planner.specs.Ranks.{Ranked};
-ghost use Rattle.planner.specs.Shows.{Shows, Settled, Ready, Room, Fresh, outcomeOf};
+ghost use Rattle.planner.specs.Shows.{Shows, Settled, Stopped, Ready, Room, Fresh, outcomeOf};
 ghost use Rattle.planner.specs.Graded.{Graded};
 ghost use Rattle.planner.specs.Told.{areas, Told};
 
@@ -169,6 +169,22 @@ fn grade(
     )
 }
 
+// Step 2 stops the search; the round counts.
+fn stop(s: Progress) -> Progress
+    requires { ⌜ s .rounds < 10000 ⌝ }
+    ensures { λ r. ⌜ Stopped s r ⌝ }
+{
+    let latest = s.latest;
+    Progress {
+        latest: latest,
+        limit: s.limit,
+        last: s.last,
+        pairs: s.pairs,
+        rounds: s.rounds + 1,
+        ended: true,
+    }
+}
+
 // One round.
 fn round(
     s: Progress,
@@ -236,14 +252,7 @@ fn round(
             times,
         );
     }
-    Progress {
-        latest: latest,
-        limit: s.limit,
-        last: s.last,
-        pairs: s.pairs,
-        rounds: s.rounds + 1,
-        ended: true,
-    }
+    stop(s)
 }
 
 // Before the first round: every order may ride the last train.

@@ -1,6 +1,6 @@
 -- `search::round` meets its contract: the code's steps are the definition's, by the laws of ShowsLaws. Assumes nothing.
 use borrow.Author.Needs.{needs}
-use mathlib.Core.Path.{_≡_, refl, sym, subst}
+use mathlib.Core.Path.{_≡_, refl, sym, subst, ap, _∙_}
 use mathlib.Core.Bool.{Bool, true, false}
 use mathlib.Core.List.{List}
 use Prim.Native.Nat.{ℕ}
@@ -126,8 +126,8 @@ returns-2 c =
       (low .0, low .1, low .2, subst (λ (m : ℕ). AtMost (length (a .capacity .now)) (take m (grade .result .latest))) len (low .3)),
     )
 
-add-t49 : tie.Need-add-t49
-add-t49 c = omega (arith, c .before .before .before .before .before .before .before .before .before .before .before .before .before .before .before .before .before .before .before .before .before .before .before .before .before .before .before .before .before .before .before .before .before .pre .1 .1 .0 .rounds-few)
+stop-requires : tie.Need-stop-requires
+stop-requires c κs = c .before .before .before .before .before .before .before .before .before .before .before .before .before .before .before .before .before .before .before .before .before .before .before .before .before .before .before .before .before .before .before .before .pre .1 .1 .0 .rounds-few
 
 same-length-7 : tie.Need-same-length-7
 same-length-7 c = search needs
@@ -140,11 +140,12 @@ same-length-9 c = search needs
 
 returns-3 : tie.Need-returns-3
 returns-3 c =
-    let b = c .before .before .before .before .before .before .before .before .before .before .before .before .before .before .before .before .before .before .before .before .before .before .before .before .before .before .before .before .before .before .before .before .before .before in
+    let b = c .before .before .before .before .before .before .before .before .before .before .before .before .before .before .before .before .before .before .before .before .before .before .before .before .before .before .before .before .before .before .before .before .before in
     let a = b .args in
     let p = b .pre .1 in
-    let load = c .before .before .before .before .before .before .before .before .before .before .before .before .before .load-trains in
-    let times = c .before .before .before .before .before .before .before .times-of in
+    let st = c .stop .ensures in
+    let load = c .before .before .before .before .before .before .before .before .before .before .before .before .load-trains in
+    let times = c .before .before .before .before .before .before .times-of in
     let T : TimeColumns = record { by-timetable = a .by-timetable; gap = a .gap; from = a .from .now; to = a .to .now; running = a .running .now; departure = a .fixed-departure .now; arrival = a .fixed-arrival .now } in
     let S : Sheet = sheetIn (a .capacity .now) (a .release .now) (a .due .now) (a .weight .now) (formIn T) in
     let train : List ℕ = load .last .0 in
@@ -153,11 +154,16 @@ returns-3 c =
     let departure : List ℕ = times .last .1 .1 .1 .1 .1 .1 .1 .1 .1 .0 in
     let arrival : List ℕ = times .last .1 .1 .1 .1 .1 .1 .1 .1 .1 .1 .0 in
     let clocked : Clocked departure arrival (timing (formIn T) (length (a .capacity .now)) (ready (at (a .release .now)) train (length (a .release .now)))) false =
-    subst (λ (v : Bool). Clocked departure arrival (timing (formIn T) (length (a .capacity .now)) (ready (at (a .release .now)) train (length (a .release .now)))) v) (c .before .before .if2 .left)
+    subst (λ (v : Bool). Clocked departure arrival (timing (formIn T) (length (a .capacity .now)) (ready (at (a .release .now)) train (length (a .release .now)))) v) (c .before .if2 .left)
     (subst (λ (m : ℕ). Clocked departure arrival (timing (formIn T) m (ready (at (a .release .now)) train (length (a .release .now)))) (times .result)) (p .1 .0 .departure-match) (times .ensures .0)) in (
-      λ x p₀ a₀ t₀ h. round-stops S p₀ a₀ t₀ (a .s) _ (a .pairs .now) (a .pairs .now) (a .train-of-order .now) (a .train-of-order .now) (a .times .now) (a .times .now) (c .before .before .before .before .before .before .before .before .before .before .before .before .before .before .before .before .before .if1 .left)
-          train loaded departure arrival clocked refl refl refl refl refl refl refl x h,
-      (omega arith, omega arith, p .1 .0 .latest-long, p .1 .0 .latest-most),
+      λ x p₀ a₀ t₀ h. round-stops S p₀ a₀ t₀ (a .s) (c .stop .result) (a .pairs .now) (a .pairs .now) (a .train-of-order .now) (a .train-of-order .now) (a .times .now) (a .times .now) (c .before .before .before .before .before .before .before .before .before .before .before .before .before .before .before .before .if1 .left)
+          train loaded departure arrival clocked refl refl refl st x h,
+      (
+        omega (arith, st .pairs-is),
+        omega (arith, st .rounds-is),
+        ap (λ l. length l) (st .latest-is) ∙ p .1 .0 .latest-long,
+        subst (λ (l : List ℕ). AtMost (length (a .capacity .now)) (take (length (a .release .now)) l)) (sym (st .latest-is)) (p .1 .0 .latest-most),
+      ),
     )
 
 pub round-spec : {M : Type 1} → statement M
@@ -177,7 +183,7 @@ round-spec =
     same-length-5
     same-length-6
     returns-2
-    add-t49
+    stop-requires
     same-length-7
     same-length-8
     same-length-9
