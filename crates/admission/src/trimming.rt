@@ -1,4 +1,4 @@
-// A sheet's columns up to their counts, which test 4 has passed.
+// A sheet's columns up to their counts, which have passed test 4: v windows, q trains and n orders, as document 01 calls them.
 use crate::Verdict;
 use crate::tests;
 ghost use mathlib.Core.Path.{_≡_};

@@ -1,10 +1,11 @@
 -- Laws of the counting words. Assumes nothing.
-use mathlib.Core.Path.{_≡_, refl, sym, _∙_, subst}
+use mathlib.Core.Path.{_≡_, refl, sym, _∙_, subst, ap}
 use mathlib.Core.Logic.{_⊎_, inl, inr}
 use mathlib.Core.Bool.{Bool, true, false}
 use mathlib.Core.List.{List, [], _∷_, _++_}
 use Prim.Native.Nat.{ℕ, zero, suc, _+_, _≤_, _<_}
 use native.Mathlib.Omega.{arith}
+use native.Mathlib.Numerals.{add-one}
 use lib.Dec.{eqb}
 use lib.ListN.{length, getD, length-append, List·getD-append}
 use lib.Seq.{getD-at}
@@ -42,6 +43,21 @@ bit-union {P} {Q} {a} {b} {c = true} s t u h = go (h (u .sound tt))
 bit-union {a} {b} {c = false} s t u h = omega arith
 
 -- ---- counts
+
+-- a count from its start, one place more at a time
+pub count-start : (p : ℕ → Bool) → 0 ≡ count p 0
+unfolding count
+count-start p = refl
+
+count-more : (p : ℕ → Bool) (j : ℕ) → one-if (p j) + count p j ≡ count p (j + 1)
+unfolding count
+count-more p j = rw add-one
+
+pub count-yes : (p : ℕ → Bool) (j : ℕ) → p j ≡ true → count p j + 1 ≡ count p (j + 1)
+count-yes p j e = omega (arith, ap one-if e, count-more p j)
+
+pub count-no : (p : ℕ → Bool) (j : ℕ) → p j ≡ false → count p j ≡ count p (j + 1)
+count-no p j e = omega (arith, ap one-if e, count-more p j)
 
 pub count-le : (p : ℕ → Bool) (n : ℕ) → count p n ≤ n
 unfolding count

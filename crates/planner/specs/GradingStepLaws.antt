@@ -1,6 +1,6 @@
 -- Laws by which code is shown to compute steps 3 to 5 of a round, a branch or a turn at a time: what the code has stands on the left. Assumes nothing.
 use Prim.Native.Nat.{ℕ, zero, suc, _+_, _-_, _≤_, _<_}
-use mathlib.Core.Path.{_≡_, refl, sym, ap, _∙_}
+use mathlib.Core.Path.{_≡_, refl, sym, _∙_}
 use mathlib.Core.Logic.{_⊎_, inl, inr}
 use mathlib.Core.Bool.{Bool, true, false, _||_}
 use mathlib.Core.List.{List, _++_, append-nil}
@@ -11,7 +11,7 @@ use lib.IntN.{ℤ, subℕ}
 use lib.ListN.{length, set, drop}
 use lib.Seq.{drop-length, drop-cons, set-at, getD-at, append-snoc}
 use lib.Signed.{ltZ, mag}
-use Rattle.numbers.specs.Counting.{at, nth, table, count, one-if, larger, greatest}
+use Rattle.numbers.specs.Counting.{at, nth, table, count, larger, greatest}
 use Rattle.numbers.specs.CountingLaws.{table-length}
 use Rattle.numbers.specs.Decides.{decided, decides-eq, decides-lt}
 use Rattle.numbers.specs.SignedLaws.{sub-neg, sub-pos}
@@ -91,20 +91,6 @@ unfolding lower
 lower-table n weight due F y latest = refl
 
 -- ---- crowding
-
-pub count-start : (p : ℕ → Bool) → 0 ≡ count p 0
-unfolding count
-count-start p = refl
-
-pub count-more : (p : ℕ → Bool) (j : ℕ) → one-if (p j) + count p j ≡ count p (j + 1)
-unfolding count
-count-more p j = rw add-one
-
-pub count-yes : (p : ℕ → Bool) (j : ℕ) → p j ≡ true → count p j + 1 ≡ count p (j + 1)
-count-yes p j e = omega (arith, ap one-if e, count-more p j)
-
-pub count-no : (p : ℕ → Bool) (j : ℕ) → p j ≡ false → count p j ≡ count p (j + 1)
-count-no p j e = omega (arith, ap one-if e, count-more p j)
 
 pub places-start : (capacity : ℕ → ℕ) → 0 ≡ places capacity 0
 unfolding places

@@ -1,4 +1,4 @@
-// From an admitted sheet's columns to the reply: test 10, then the rounds.
+// From an admitted sheet's columns to the reply: test 10, then the rounds. There are v windows, q trains and n orders, as document 01 calls them.
 use crate::search;
 use model::Refusal;
 use model::Reply;

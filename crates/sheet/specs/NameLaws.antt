@@ -1,5 +1,5 @@
 -- A NAME THAT IS GIVEN BACK LIES IN THE TEXT AND HAS AT MOST 12 BYTES. Assumes nothing.
-use mathlib.Core.Path.{_≡_}
+use mathlib.Core.Path.{_≡_, refl}
 use mathlib.Core.List.{List}
 use Prim.Native.Nat.{ℕ, _+_, _-_, _≤_, _<_}
 use native.Mathlib.Omega.{arith}
@@ -9,7 +9,7 @@ use Rattle.model.specs.Limits.{inside, _–_}
 use Rattle.sheet.specs.FieldLaws.{inside-means}
 use Rattle.sheet.specs.LineLaws.{by-test}
 use Rattle.sheet.specs.Reading.{readFrom}
-use Rattle.sheet.specs.OrderNames.{Span, nameOf, nameIn, namesIn}
+use Rattle.sheet.specs.OrderNames.{Span, nameAt, nameOf, nameIn, namesIn}
 use Rattle.sheet.specs.TextLaws.{orders-good, text-good}
 use Rattle.sheet.specs.declared.Form.{Form}
 use Rattle.sheet.specs.declared.NamePlaces.{NamePlaces}
@@ -41,3 +41,9 @@ all-lie form text =
     let good = text-good form text 0 .lines in
     let o = orders-good form (readFrom form text 0 .lines) (good .0) in
     record { few = o .few; starts = o .start-long; lengths = o .length-long; lie = λ j l. good .1 j l .lies }
+
+-- each of them is the name that the naming call gives back
+pub names-agree : (form : Form) (text : List ℕ) (j : ℕ)
+    → nameAt (namesIn form text .count) (namesIn form text .start) (namesIn form text .length) j ≡ nameIn form text j
+unfolding nameIn nameOf namesIn
+names-agree form text j = refl

@@ -1,6 +1,7 @@
 -- `all_inside` is the test of every element, by the loop's invariant that `all` is the test of the places passed, which `every-more` carries on. Assumes nothing.
-use mathlib.Core.Path.{_≡_}
-use Prim.Native.Nat.{_≤_, _-_}
+use mathlib.Core.Path.{_≡_, sym, ap, _∙_}
+use mathlib.Core.Bool.{Bool, _&&_}
+use Prim.Native.Nat.{ℕ, _≤_, _-_}
 use native.Mathlib.Omega.{arith}
 use lib.ListN.{length}
 use borrow.Author.Needs.{needs}
@@ -40,7 +41,10 @@ loop-less c = search needs
 
 loop-again : tie.Need-loop-again Inv-loop μ-loop
 loop-again c =
-    let l = c .before .before .before .loop in (omega arith, rw (every-more, ← l .inv .1))
+    let a = c .before .before .before .before .args in
+    let l = c .before .before .before .loop in
+    let p : ℕ → Bool = insideAt (a .least – a .most) (a .column .now) in
+    (omega arith, ap (λ (t : Bool). p (l .j) && t) (l .inv .1) ∙ sym (every-more p (l .j)))
 
 returns : tie.Need-returns Inv-loop μ-loop
 unfolding allInside

@@ -9,9 +9,8 @@ use lib.Dec.{leb, ltb}
 use lib.ListN.{length}
 use borrow.Author.Tests.{le-leb, lt-leb}
 use borrow.Author.Needs.{needs}
-use Rattle.numbers.specs.CountingLaws.{count-le}
+use Rattle.numbers.specs.CountingLaws.{count-start, count-yes, count-no, count-le}
 use Rattle.numbers.specs.Counting.{at, count}
-use Rattle.planner.specs.GradingStepLaws.{count-start, count-yes, count-no}
 use Rattle.planner.proofs.grading.crowded_at.Statement.{statement}
 use Rattle.planner.proofs.grading.crowded_at.Tie as tie
 

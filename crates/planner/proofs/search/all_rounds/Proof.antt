@@ -12,7 +12,7 @@ use Rattle.rounds.specs.Rounds.{plan}
 use Rattle.front.specs.Front.{never-cut-off}
 use Rattle.admission.specs.Columns.{sheetIn}
 use Rattle.planner.specs.Lent.{TimeColumns, formIn}
-use Rattle.planner.specs.RankLaws.{ranks-room, places-room, ranks-front, places-front, ranked-front}
+use Rattle.planner.specs.RankLaws.{front-room, front-long, ranked-front}
 use Rattle.planner.specs.Told.{areas, Told}
 use Rattle.planner.specs.RunLaws.{Turn, first-turn, next-shows, ends, cut-off}
 use Rattle.planner.proofs.search.all_rounds.Statement.{statement}
@@ -70,16 +70,16 @@ loop-holds c =
     )
 
 array-share-prefix-ranks : tie.Need-array-share-prefix-ranks Inv-loop μ-loop
-array-share-prefix-ranks c = ranks-room (c .before .before .before .before .before .rank-orders .ensures) _
+array-share-prefix-ranks c = front-room (c .before .before .before .before .before .rank-orders .last .1 .0) _ _ (c .before .before .before .before .before .rank-orders .ensures .placed .ranks-match)
 
 slice-aggregate-round : tie.Need-slice-aggregate-round Inv-loop μ-loop
-slice-aggregate-round c = ranks-front (c .before .before .before .before .before .before .rank-orders .ensures) _
+slice-aggregate-round c = front-long (c .before .before .before .before .before .before .rank-orders .last .1 .0) _ _ (c .before .before .before .before .before .before .rank-orders .ensures .placed .ranks-match)
 
 array-share-prefix-places : tie.Need-array-share-prefix-places Inv-loop μ-loop
-array-share-prefix-places c = places-room (c .before .before .before .before .before .before .rank-orders .ensures) _
+array-share-prefix-places c = front-room (c .before .before .before .before .before .before .rank-orders .last .1 .1 .0) _ _ (c .before .before .before .before .before .before .rank-orders .ensures .placed .places-match)
 
 slice-aggregate-round-2 : tie.Need-slice-aggregate-round-2 Inv-loop μ-loop
-slice-aggregate-round-2 c = places-front (c .before .before .before .before .before .before .before .rank-orders .ensures) _
+slice-aggregate-round-2 c = front-long (c .before .before .before .before .before .before .before .rank-orders .last .1 .1 .0) _ _ (c .before .before .before .before .before .before .before .rank-orders .ensures .placed .places-match)
 
 array-borrow-prefix-train : tie.Need-array-borrow-prefix-train Inv-loop μ-loop
 array-borrow-prefix-train c = omega (arith, c .before .before .before .before .before .before .before .before .before .before .before .before .before .before .before .before .before .before .before .before .before .pre .1 .0 .orders-most, c .before .before .before .loop .inv)
