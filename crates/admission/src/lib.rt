@@ -1,72 +1,44 @@
 // Admission: whether a sheet in memory passes the tests 4, 5, 2, 6 and 7, in that order, or the refusal of the first that fails.
+mod columns;
 mod tests;
-mod trimming;
 
+use model::Admission;
 use model::Refusal;
-use model::TimetableSheet;
-use model::WindowSheet;
+use model::Sheet;
 ghost use mathlib.Core.Path.{_≡_};
-ghost use Rattle.model.specs.Memory.{windowSheet, timetableSheet};
+ghost use Rattle.model.specs.Memory.{sheetOf};
 ghost use Rattle.model.specs.Admission.{admission};
-ghost use Rattle.admission.specs.Verdict.{verdict};
+ghost use Rattle.admission.specs.FirstRefusal.{firstRefusal};
 
-// That a sheet is admitted, or why it is refused.
-pub enum Verdict {
-    Admitted,
-    Refused(Refusal),
+// The answer to a sheet that passes test 4: the first of the tests 5, 2, 6 and 7 that fails decides.
+fn first_refusal(complete: bool, in_range: bool, in_order: bool, balanced: bool) -> Admission
+    ensures { λ r. ⌜ r ≡ firstRefusal complete «in_range» «in_order» balanced ⌝ }
+{
+    if !complete {
+        return Admission::Refused(Refusal::KindMissing);
+    }
+    if !in_range {
+        return Admission::Refused(Refusal::OutOfRange(0));
+    }
+    if !in_order {
+        return Admission::Refused(Refusal::OutOfOrder(0));
+    }
+    if !balanced {
+        return Admission::Refused(Refusal::PlacesDiffer);
+    }
+    Admission::Granted
 }
 
-// Tests a sheet of the window form.
-pub fn admit_windows(sheet: WindowSheet) -> Verdict
-    ensures { λ r. ⌜ r ≡ verdict (admission (windowSheet sheet)) ⌝ }
+// "A planning call tests its sheet itself: 4, 5, 2, 6, 7", with 0 returned. Columns are short, so every test after test 4 is made.
+pub fn admit(sheet: Sheet) -> Admission
+    ensures { λ r. ⌜ r ≡ admission (sheetOf sheet) ⌝ }
 {
-    let v = sheet.window_count;
-    let q = sheet.train_count;
-    let n = sheet.order_count;
-    if 64 < v {
-        return Verdict::Refused(Refusal::TooMany(0));
+    if !tests::few(sheet) {
+        return Admission::Refused(Refusal::TooMany(0));
     }
-    if 32 < q {
-        return Verdict::Refused(Refusal::TooMany(0));
-    }
-    if 200 < n {
-        return Verdict::Refused(Refusal::TooMany(0));
-    }
-    trimming::windows_up_to(
-        sheet.gap,
-        v,
-        q,
-        n,
-        &sheet.window_from,
-        &sheet.window_to,
-        &sheet.capacity,
-        &sheet.running,
-        &sheet.release,
-        &sheet.due,
-        &sheet.weight,
-    )
-}
-
-// Tests a sheet of the timetable form.
-pub fn admit_timetable(sheet: TimetableSheet) -> Verdict
-    ensures { λ r. ⌜ r ≡ verdict (admission (timetableSheet sheet)) ⌝ }
-{
-    let q = sheet.train_count;
-    let n = sheet.order_count;
-    if 32 < q {
-        return Verdict::Refused(Refusal::TooMany(0));
-    }
-    if 200 < n {
-        return Verdict::Refused(Refusal::TooMany(0));
-    }
-    trimming::timetable_up_to(
-        q,
-        n,
-        &sheet.capacity,
-        &sheet.departure,
-        &sheet.arrival,
-        &sheet.release,
-        &sheet.due,
-        &sheet.weight,
-    )
+    let complete = tests::complete(sheet);
+    let in_range = tests::in_range(sheet);
+    let in_order = tests::in_order(sheet);
+    let balanced = tests::balanced(sheet);
+    first_refusal(complete, in_range, in_order, balanced)
 }

@@ -1,192 +1,167 @@
-// The tests that admit a sheet, over its columns. Test 4 has passed before: each column is trimmed to its count, and no count is above its limit.
-// Columns are short, so every test is made, by `&`; the first that fails decides the answer.
-use crate::Verdict;
-use model::Refusal;
+// The tests of a sheet, one by one. Those after test 4 stand on it: no count is above its limit.
+use crate::columns::BESIDE;
+use crate::columns::NEXT;
+use crate::columns::all_apart;
+use crate::columns::all_inside;
+use crate::columns::places;
+use model::Form;
+use model::Sheet;
+use model::limits;
 ghost use mathlib.Core.Path.{_≡_};
 ghost use Prim.Native.Nat.{_≤_};
-ghost use lib.Dec.{eqb};
-ghost use lib.ListN.{length};
-ghost use Rattle.numbers.specs.Counting.{nth};
-ghost use Rattle.model.specs.Limits.{_–_};
-ghost use Rattle.model.specs.Sheet.{windows, timetable, places};
-ghost use Rattle.model.specs.Admission.{admission};
-ghost use Rattle.admission.specs.Columns.{windowsIn, timetableIn, sheetIn};
-ghost use Rattle.admission.specs.ColumnTests.{allInside, allUpTo, allBelow, allRising, ordersInRange, windowsInRange, timesInRange, windowsInOrder, timesInOrder};
-ghost use Rattle.admission.specs.Verdict.{verdict, verdictOf};
+ghost use Rattle.numbers.specs.Counting.{every};
+ghost use Rattle.model.specs.Limits.{window-counts, train-counts};
+ghost use Rattle.model.specs.Sheet.{windows, timetable};
+ghost use Rattle.model.specs.Memory.{windowsOf, timetableOf, sheetOf};
+ghost use Rattle.model.specs.Admission.{Few, few, fewWindows, complete, someWindow, balanced};
+ghost use Rattle.model.specs.Admission.{orderInRange, pathsInRange, inRange, pathsInOrder, inOrder};
 
-// Whether every element is in the range from `least` to `most`.
-fn all_inside(column: &[u32], least: u32, most: u32) -> bool
-    ensures { λ r. ⌜ r ≡ allInside (least – most) (now (column .entry)) ⌝ }
+// Test 4 of windows: a timetable has none.
+fn few_windows(sheet: Sheet) -> bool
+    ensures { λ r. ⌜ r ≡ fewWindows (sheetOf sheet .paths) ⌝ }
 {
-    let mut all = true;
-    let mut j: usize = 0;
-    while j < column.len() {
-        all = (least <= column[j]) & (column[j] <= most) & all;
-        j += 1;
+    let form = sheet.form;
+    match form {
+        Form::Windows => sheet.window_count <= limits::MOST_WINDOWS,
+        Form::Timetable => true,
     }
-    all
 }
 
-// Whether every element of `a` is at most the one of `b` beside it.
-fn all_up_to(a: &[u32], b: &[u32]) -> bool
-    requires { ⌜ length (now a) ≡ length (now b) ⌝ }
-    ensures { λ r. ⌜ r ≡ allUpTo (now (a .entry)) (now (b .entry)) ⌝ }
+// Test 4: no more of a kind than allowed.
+pub fn few(sheet: Sheet) -> bool
+    ensures { λ r. ⌜ r ≡ few (sheetOf sheet) ⌝ }
 {
-    let mut all = true;
-    let mut j: usize = 0;
-    while j < a.len() {
-        all = (a[j] <= b[j]) & all;
-        j += 1;
-    }
-    all
+    (sheet.order_count <= limits::MOST_ORDERS)
+        & (sheet.train_count <= limits::MOST_TRAINS)
+        & few_windows(sheet)
 }
 
-// Whether every element of `a` is below the one of `b` beside it.
-fn all_below(a: &[u32], b: &[u32]) -> bool
-    requires { ⌜ length (now a) ≡ length (now b) ⌝ }
-    ensures { λ r. ⌜ r ≡ allBelow (now (a .entry)) (now (b .entry)) ⌝ }
+// Test 5 of windows: a timetable needs none.
+fn some_window(sheet: Sheet) -> bool
+    ensures { λ r. ⌜ r ≡ someWindow (sheetOf sheet .paths) ⌝ }
 {
-    let mut all = true;
-    let mut j: usize = 0;
-    while j < a.len() {
-        all = (a[j] < b[j]) & all;
-        j += 1;
+    let form = sheet.form;
+    match form {
+        Form::Windows => 1 <= sheet.window_count,
+        Form::Timetable => true,
     }
-    all
 }
 
-// Whether every element of `a` but the last is below the one of `b` after it.
-fn all_rising(a: &[u32], b: &[u32]) -> bool
-    requires { ⌜ length (now a) ≡ length (now b) ⌝ }
-    ensures { λ r. ⌜ r ≡ allRising (now (a .entry)) (now (b .entry)) ⌝ }
+// Test 5: no kind is missing.
+pub fn complete(sheet: Sheet) -> bool
+    ensures { λ r. ⌜ r ≡ complete (sheetOf sheet) ⌝ }
 {
-    let mut all = true;
-    let mut j: usize = 0;
-    while j + 1 < a.len() {
-        let next = j + 1;
-        all = (a[j] < b[next]) & all;
-        j = next;
-    }
-    all
+    (1 <= sheet.order_count) & (1 <= sheet.train_count) & some_window(sheet)
 }
 
-// Test 2 of the orders and the capacities, which both forms have.
-fn orders_in_range(capacity: &[u32], release: &[u32], due: &[u32], weight: &[u32]) -> bool
-    ensures { λ r. ⌜ r ≡ ordersInRange (now (capacity .entry)) (now (release .entry)) (now (due .entry)) (now (weight .entry)) ⌝ }
+// Test 2 of the orders.
+fn orders_in_range(sheet: Sheet) -> bool
+    requires { ⌜ Few (sheetOf sheet) ⌝ }
+    ensures { λ r. ⌜ r ≡ every (orderInRange (sheetOf sheet)) (sheet .«order_count») ⌝ }
 {
-    all_inside(release, 0, 100000)
-        & all_inside(due, 0, 100000)
-        & all_inside(weight, 1, 1000)
-        & all_inside(capacity, 1, 64)
+    let n = sheet.order_count;
+    all_inside(&sheet.release, n, 0, limits::LAST_INSTANT)
+        & all_inside(&sheet.due, n, 0, limits::LAST_INSTANT)
+        & all_inside(&sheet.weight, n, limits::LEAST_WEIGHT, limits::MOST_WEIGHT)
 }
 
 // Test 2 of the gap, the windows and the running times.
-fn windows_in_range(gap: u32, from: &[u32], to: &[u32], running: &[u32]) -> bool
-    ensures { λ r. ⌜ r ≡ windowsInRange gap (now (from .entry)) (now (to .entry)) (now (running .entry)) ⌝ }
+fn windows_in_range(sheet: Sheet) -> bool
+    requires { ⌜ (sheet .«window_count» ≤ window-counts .most) × (sheet .«train_count» ≤ train-counts .most) ⌝ }
+    ensures { λ r. ⌜ r ≡ pathsInRange (windows (windowsOf sheet)) (sheet .«train_count») ⌝ }
 {
-    (1 <= gap)
-        & (gap <= 1440)
-        & (all_inside(from, 0, 100000) & all_inside(to, 0, 100000))
-        & all_inside(running, 1, 10000)
+    let v = sheet.window_count;
+    (limits::LEAST_GAP <= sheet.gap)
+        & (sheet.gap <= limits::MOST_GAP)
+        & (all_inside(&sheet.window_from, v, 0, limits::LAST_INSTANT)
+            & all_inside(&sheet.window_to, v, 0, limits::LAST_INSTANT))
+        & all_inside(
+            &sheet.running,
+            sheet.train_count,
+            limits::LEAST_RUNNING,
+            limits::MOST_RUNNING,
+        )
 }
 
 // Test 2 of fixed departures and arrivals.
-fn times_in_range(departure: &[u32], arrival: &[u32]) -> bool
-    ensures { λ r. ⌜ r ≡ timesInRange (now (departure .entry)) (now (arrival .entry)) ⌝ }
+fn times_in_range(sheet: Sheet) -> bool
+    requires { ⌜ sheet .«train_count» ≤ train-counts .most ⌝ }
+    ensures { λ r. ⌜ r ≡ pathsInRange (timetable (timetableOf sheet)) (sheet .«train_count») ⌝ }
 {
-    all_inside(departure, 0, 100000) & all_inside(arrival, 1, 160000)
+    let q = sheet.train_count;
+    all_inside(&sheet.departure, q, 0, limits::LAST_INSTANT)
+        & all_inside(
+            &sheet.arrival,
+            q,
+            limits::FIRST_ARRIVAL,
+            limits::LAST_ARRIVAL,
+        )
 }
 
-// Test 6 of the window form.
-fn windows_in_order(from: &[u32], to: &[u32]) -> bool
-    requires { ⌜ length (now from) ≡ length (now to) ⌝ }
-    ensures { λ r. ⌜ r ≡ windowsInOrder (now (from .entry)) (now (to .entry)) ⌝ }
+// Test 2 of what one form has and the other has not.
+fn paths_in_range(sheet: Sheet) -> bool
+    requires { ⌜ Few (sheetOf sheet) ⌝ }
+    ensures { λ r. ⌜ r ≡ pathsInRange (sheetOf sheet .paths) (sheet .«train_count») ⌝ }
 {
-    all_up_to(from, to) & all_rising(to, from)
-}
-
-// Test 6 of the timetable form.
-fn times_in_order(departure: &[u32], arrival: &[u32]) -> bool
-    requires { ⌜ length (now departure) ≡ length (now arrival) ⌝ }
-    ensures { λ r. ⌜ r ≡ timesInOrder (now (departure .entry)) (now (arrival .entry)) ⌝ }
-{
-    all_below(departure, arrival) & all_rising(departure, departure) & all_rising(arrival, arrival)
-}
-
-// Test 7: whether the trains have as many places as there are orders. At most 32 numbers of 32 bits do not wrap 64.
-fn places_match(capacity: &[u32], orders: usize) -> bool
-    requires { ⌜ length (now capacity) ≤ 32 ⌝ }
-    ensures { λ r. ⌜ r ≡ eqb (places (nth (now (capacity .entry))) (length (now (capacity .entry)))) orders ⌝ }
-{
-    let mut sum: usize = 0;
-    let mut i: usize = 0;
-    while i < capacity.len() {
-        sum += capacity[i] as usize;
-        i += 1;
+    let form = sheet.form;
+    match form {
+        Form::Windows => windows_in_range(sheet),
+        Form::Timetable => times_in_range(sheet),
     }
-    sum == orders
 }
 
-// The answer of the first of the tests 5, 2, 6 and 7 that fails.
-fn verdict_of(complete: bool, in_range: bool, in_order: bool, balanced: bool) -> Verdict
-    ensures { λ r. ⌜ r ≡ verdictOf complete «in_range» «in_order» balanced ⌝ }
+// Test 2: every value is in its range.
+pub fn in_range(sheet: Sheet) -> bool
+    requires { ⌜ Few (sheetOf sheet) ⌝ }
+    ensures { λ r. ⌜ r ≡ inRange (sheetOf sheet) ⌝ }
 {
-    if !complete {
-        return Verdict::Refused(Refusal::KindMissing);
-    }
-    if !in_range {
-        return Verdict::Refused(Refusal::OutOfRange(0));
-    }
-    if !in_order {
-        return Verdict::Refused(Refusal::OutOfOrder(0));
-    }
-    if !balanced {
-        return Verdict::Refused(Refusal::PlacesDiffer);
-    }
-    Verdict::Admitted
+    orders_in_range(sheet)
+        & all_inside(
+            &sheet.capacity,
+            sheet.train_count,
+            limits::LEAST_CAPACITY,
+            limits::MOST_CAPACITY,
+        )
+        & paths_in_range(sheet)
 }
 
-// Whether the sheet of the window form that the columns make is admitted.
-pub fn windows_verdict<'a>(
-    gap: u32,
-    from: &'a [u32],
-    to: &'a [u32],
-    capacity: &'a [u32],
-    running: &'a [u32],
-    release: &'a [u32],
-    due: &'a [u32],
-    weight: &'a [u32],
-) -> Verdict
-    requires { ⌜ (length (now from) ≡ length (now to)) × (length (now from) ≤ 64) ⌝ }
-    requires { ⌜ (length (now running) ≡ length (now capacity)) × (length (now capacity) ≤ 32) ⌝ }
-    requires { ⌜ (length (now due) ≡ length (now release)) × (length (now weight) ≡ length (now release)) × (length (now release) ≤ 200) ⌝ }
-    ensures { λ r. ⌜ r ≡ verdict (admission (sheetIn (now (capacity .entry)) (now (release .entry)) (now (due .entry)) (now (weight .entry)) (windows (windowsIn gap (now (from .entry)) (now (to .entry)) (now (running .entry)))))) ⌝ }
+// Test 6 of windows: each ends no earlier than it begins, and before the next.
+fn windows_in_order(sheet: Sheet) -> bool
+    requires { ⌜ sheet .«window_count» ≤ window-counts .most ⌝ }
+    ensures { λ r. ⌜ r ≡ pathsInOrder (windows (windowsOf sheet)) (sheet .«train_count») ⌝ }
 {
-    let complete = (1 <= release.len()) & (1 <= capacity.len()) & (1 <= from.len());
-    let in_range = orders_in_range(capacity, release, due, weight)
-        & windows_in_range(gap, from, to, running);
-    let in_order = windows_in_order(from, to);
-    let balanced = places_match(capacity, release.len());
-    verdict_of(complete, in_range, in_order, balanced)
+    let v = sheet.window_count;
+    all_apart(&sheet.window_from, &sheet.window_to, v, BESIDE, 0)
+        & all_apart(&sheet.window_to, &sheet.window_from, v, NEXT, 1)
 }
 
-// Whether the sheet of the timetable form that the columns make is admitted.
-pub fn timetable_verdict<'a>(
-    capacity: &'a [u32],
-    departure: &'a [u32],
-    arrival: &'a [u32],
-    release: &'a [u32],
-    due: &'a [u32],
-    weight: &'a [u32],
-) -> Verdict
-    requires { ⌜ (length (now departure) ≡ length (now capacity)) × (length (now arrival) ≡ length (now capacity)) × (length (now capacity) ≤ 32) ⌝ }
-    requires { ⌜ (length (now due) ≡ length (now release)) × (length (now weight) ≡ length (now release)) × (length (now release) ≤ 200) ⌝ }
-    ensures { λ r. ⌜ r ≡ verdict (admission (sheetIn (now (capacity .entry)) (now (release .entry)) (now (due .entry)) (now (weight .entry)) (timetable (timetableIn (now (departure .entry)) (now (arrival .entry)))))) ⌝ }
+// Test 6 of a timetable: each train departs before it arrives, and departures and arrivals rise.
+fn times_in_order(sheet: Sheet) -> bool
+    requires { ⌜ sheet .«train_count» ≤ train-counts .most ⌝ }
+    ensures { λ r. ⌜ r ≡ pathsInOrder (timetable (timetableOf sheet)) (sheet .«train_count») ⌝ }
 {
-    let complete = (1 <= release.len()) & (1 <= capacity.len());
-    let in_range = orders_in_range(capacity, release, due, weight)
-        & times_in_range(departure, arrival);
-    let in_order = times_in_order(departure, arrival);
-    let balanced = places_match(capacity, release.len());
-    verdict_of(complete, in_range, in_order, balanced)
+    let q = sheet.train_count;
+    all_apart(&sheet.departure, &sheet.arrival, q, BESIDE, 1)
+        & all_apart(&sheet.departure, &sheet.departure, q, NEXT, 1)
+        & all_apart(&sheet.arrival, &sheet.arrival, q, NEXT, 1)
+}
+
+// Test 6: windows or times are in order.
+pub fn in_order(sheet: Sheet) -> bool
+    requires { ⌜ Few (sheetOf sheet) ⌝ }
+    ensures { λ r. ⌜ r ≡ inOrder (sheetOf sheet) ⌝ }
+{
+    let form = sheet.form;
+    match form {
+        Form::Windows => windows_in_order(sheet),
+        Form::Timetable => times_in_order(sheet),
+    }
+}
+
+// Test 7: the trains have as many places as there are orders.
+pub fn balanced(sheet: Sheet) -> bool
+    requires { ⌜ Few (sheetOf sheet) ⌝ }
+    ensures { λ r. ⌜ r ≡ balanced (sheetOf sheet) ⌝ }
+{
+    places(&sheet.capacity, sheet.train_count) == sheet.order_count
 }

@@ -1,17 +1,17 @@
 // The calls for C and Rust, one for each call of the library. They take and return numbers, slices (in C a pointer, then a length) and structs laid
 // out as in C, and ask nothing of their caller. include/joshkamber.h declares them.
+use model::Admission;
 use model::Refusal;
 use model::Reply;
 use model::TimetableSheet;
 use model::WindowSheet;
-use sheet::Answer;
 use sheet::NamePlace;
 ghost use mathlib.Core.Path.{_≡_};
 ghost use Rattle.model.specs.Memory.{windowSheet, timetableSheet};
 ghost use Rattle.sheet.specs.OrderNames.{nameIn, placeOf};
-ghost use Rattle.sheet.specs.declared.Form.the-variants.{Windows, Timetable};
-ghost use Rattle.planner.specs.Told.{areas};
-ghost use Rattle.capi.specs.Exported.{causeOf, causeIn, windowsRead, timetableRead, planningOf, Exported};
+ghost use Rattle.model.specs.declared.Form.the-variants.{Windows, Timetable};
+ghost use Rattle.rounds.specs.Told.{areas};
+ghost use Rattle.capi.specs.Exported.{causeOf, causeIn, windowsRead, timetableRead, ExportedReading, planningOf, ExportedPlanning};
 
 // Why an input is refused: document 01's number and returned value. 0 and 0 say that it is not.
 #[repr(C)]
@@ -53,15 +53,15 @@ fn cause_of(refusal: Refusal) -> Cause
     }
 }
 
-fn cause_in(answer: Answer) -> Cause
-    ensures { λ r. ⌜ r ≡ causeIn answer ⌝ }
+fn cause_in(admission: Admission) -> Cause
+    ensures { λ r. ⌜ r ≡ causeIn admission ⌝ }
 {
-    match answer {
-        Answer::Read => Cause {
+    match admission {
+        Admission::Granted => Cause {
             number: 0,
             returned: 0,
         },
-        Answer::Refused(refusal) => cause_of(refusal),
+        Admission::Refused(refusal) => cause_of(refusal),
     }
 }
 
@@ -88,11 +88,11 @@ fn planning_of(reply: Reply) -> Planning
 // Reads a text of the window form.
 #[no_mangle]
 pub extern "C" fn joshkamber_read_windows(text: &[u8]) -> WindowsRead
-    ensures { λ r. ⌜ r ≡ windowsRead (now (text .entry)) ⌝ }
+    ensures { λ r. ⌜ ExportedReading (now (text .entry)) (windowsRead (now (text .entry))) r (r .cause) (windowSheet (r .sheet)) ⌝ }
 {
     let reading = sheet::read_windows(text);
-    let answer = reading.answer;
-    let cause = cause_in(answer);
+    let admission = reading.admission;
+    let cause = cause_in(admission);
     let sheet = reading.sheet;
     WindowsRead {
         cause: cause,
@@ -103,11 +103,11 @@ pub extern "C" fn joshkamber_read_windows(text: &[u8]) -> WindowsRead
 // Reads a text of the timetable form.
 #[no_mangle]
 pub extern "C" fn joshkamber_read_timetable(text: &[u8]) -> TimetableRead
-    ensures { λ r. ⌜ r ≡ timetableRead (now (text .entry)) ⌝ }
+    ensures { λ r. ⌜ ExportedReading (now (text .entry)) (timetableRead (now (text .entry))) r (r .cause) (timetableSheet (r .sheet)) ⌝ }
 {
     let reading = sheet::read_timetable(text);
-    let answer = reading.answer;
-    let cause = cause_in(answer);
+    let admission = reading.admission;
+    let cause = cause_in(admission);
     let sheet = reading.sheet;
     TimetableRead {
         cause: cause,
@@ -139,8 +139,9 @@ pub extern "C" fn joshkamber_plan_windows(
     train_of_order: &mut [u8],
     times: &mut [u32],
 ) -> Planning
-    ensures { λ r. ⌜ Exported (windowSheet sheet) r
-        (areas (now (pairs .exit)) (now («train_of_order» .exit)) (now (times .exit))) (areas (now (pairs .entry)) (now («train_of_order» .entry)) (now (times .entry))) ⌝ }
+    ensures { λ r. ⌜ ExportedPlanning (windowSheet sheet) r
+        (areas (now (pairs .exit)) (now («train_of_order» .exit)) (now (times .exit)))
+        (areas (now (pairs .entry)) (now («train_of_order» .entry)) (now (times .entry))) ⌝ }
 {
     let reply = planner::plan_windows(sheet, pairs, train_of_order, times);
     planning_of(reply)
@@ -154,8 +155,9 @@ pub extern "C" fn joshkamber_plan_timetable(
     train_of_order: &mut [u8],
     times: &mut [u32],
 ) -> Planning
-    ensures { λ r. ⌜ Exported (timetableSheet sheet) r
-        (areas (now (pairs .exit)) (now («train_of_order» .exit)) (now (times .exit))) (areas (now (pairs .entry)) (now («train_of_order» .entry)) (now (times .entry))) ⌝ }
+    ensures { λ r. ⌜ ExportedPlanning (timetableSheet sheet) r
+        (areas (now (pairs .exit)) (now («train_of_order» .exit)) (now (times .exit)))
+        (areas (now (pairs .entry)) (now («train_of_order» .entry)) (now (times .entry))) ⌝ }
 {
     let reply = planner::plan_timetable(sheet, pairs, train_of_order, times);
     planning_of(reply)

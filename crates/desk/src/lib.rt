@@ -1,97 +1,73 @@
 // From the text of a sheet to the bytes of its printed plan.
+use model::Admission;
+use model::Form;
 use model::Reply;
+use model::Sheet;
+use model::limits::MOST_ORDERS;
+use model::limits::MOST_PAIR_NUMBERS;
+use model::limits::MOST_TIME_NUMBERS;
+use model::limits::NUMBERS_A_PAIR;
+use model::limits::NUMBERS_A_TRAIN;
 use printer::Printed;
-use sheet::Answer;
 ghost use mathlib.Core.Path.{_≡_};
-ghost use mathlib.Core.Bool.{true, false};
 ghost use Prim.Native.Nat.{_*_};
 ghost use lib.ListN.{take};
-ghost use Rattle.model.specs.Memory.{windowSheet, timetableSheet};
-ghost use Rattle.sheet.specs.Sheets.{windowReading, timetableReading};
-ghost use Rattle.planner.specs.Told.{areas};
+ghost use Rattle.model.specs.Memory.{sheetOf};
+ghost use Rattle.model.specs.Limits.{numbers-a-pair, numbers-a-train};
+ghost use Rattle.rounds.specs.Told.{areas};
 ghost use Rattle.printer.specs.Writing.{Prints};
-ghost use Rattle.desk.specs.Printing.{reply-bytes, Printing, TextPrinted};
+ghost use Rattle.desk.specs.Printing.{form-of, reply-bytes, PlanPrinted, TextPrinted};
 
 // Reads a text, plans its sheet, and prints the plan or the refusal to the front of the buffer.
 pub fn print_text(text: &[u8], out: &mut [u8]) -> Printed
     ensures { λ r. ⌜ TextPrinted (now (text .entry)) (now (out .entry)) r (now (out .exit)) ⌝ }
 {
+    let form = form_of(text);
+    let reading = sheet::read(text, form);
+    let admission = reading.admission;
+    let sheet = reading.sheet;
+    if let Admission::Refused(refusal) = admission {
+        return printer::print_refusal(refusal, out);
+    }
+    print_sheet(text, sheet, out)
+}
+
+// A first byte `X`, 88, means the timetable form.
+fn form_of(text: &[u8]) -> Form
+    ensures { λ r. ⌜ r ≡ form-of (now (text .entry)) ⌝ }
+{
     if text.len() == 0 {
-        return print_windows(text, out);
+        return Form::Windows;
     }
     if text[0] == 88 {
-        return print_timetable(text, out);
+        return Form::Timetable;
     }
-    print_windows(text, out)
+    Form::Windows
 }
 
-fn print_windows(text: &[u8], out: &mut [u8]) -> Printed
-    ensures { λ r. ⌜ Printing (windowReading (now (text .entry)) .answer) (now (text .entry)) false (windowSheet (windowReading (now (text .entry)) .sheet))
-        (now (out .entry)) r (now (out .exit)) ⌝ }
+// Plans the sheet of a text, in areas that are long enough for every sheet, and prints the reply.
+fn print_sheet(text: &[u8], sheet: Sheet, out: &mut [u8]) -> Printed
+    ensures { λ r. ⌜ PlanPrinted (now (text .entry)) (sheet .form) (sheetOf sheet) (now (out .entry)) r (now (out .exit)) ⌝ }
 {
-    let reading = sheet::read_windows(text);
-    let answer = reading.answer;
-    let sheet = reading.sheet;
-    if let Answer::Refused(refusal) = answer {
-        return printer::print_refusal(refusal, out);
-    }
-    let mut pairs: [i64; 12800] = [0; 12800];
-    let mut train_of_order: [u8; 200] = [0; 200];
-    let mut times: [u32; 64] = [0; 64];
-    let reply = planner::plan_windows(sheet, &mut pairs, &mut train_of_order, &mut times);
-    print_reply(
-        text,
-        false,
-        sheet.order_count,
-        sheet.train_count,
-        reply,
-        &pairs,
-        &train_of_order,
-        &times,
-        out,
-    )
-}
-
-fn print_timetable(text: &[u8], out: &mut [u8]) -> Printed
-    ensures { λ r. ⌜ Printing (timetableReading (now (text .entry)) .answer) (now (text .entry)) true (timetableSheet (timetableReading (now (text .entry)) .sheet))
-        (now (out .entry)) r (now (out .exit)) ⌝ }
-{
-    let reading = sheet::read_timetable(text);
-    let answer = reading.answer;
-    let sheet = reading.sheet;
-    if let Answer::Refused(refusal) = answer {
-        return printer::print_refusal(refusal, out);
-    }
-    let mut pairs: [i64; 12800] = [0; 12800];
-    let mut train_of_order: [u8; 200] = [0; 200];
-    let mut times: [u32; 64] = [0; 64];
-    let reply = planner::plan_timetable(sheet, &mut pairs, &mut train_of_order, &mut times);
-    print_reply(
-        text,
-        true,
-        sheet.order_count,
-        sheet.train_count,
-        reply,
-        &pairs,
-        &train_of_order,
-        &times,
-        out,
-    )
+    let mut pairs: [i64; MOST_PAIR_NUMBERS] = [0; MOST_PAIR_NUMBERS];
+    let mut train_of_order: [u8; MOST_ORDERS] = [0; MOST_ORDERS];
+    let mut times: [u32; MOST_TIME_NUMBERS] = [0; MOST_TIME_NUMBERS];
+    let reply = planner::plan(sheet, &mut pairs, &mut train_of_order, &mut times);
+    print_reply(text, sheet, reply, &pairs, &train_of_order, &times, out)
 }
 
 // Prints a planning call's reply, with the fronts of the areas that it left.
 fn print_reply(
     text: &[u8],
-    by_timetable: bool,
-    orders: usize,
-    trains: usize,
+    sheet: Sheet,
     reply: Reply,
     pairs: &[i64],
     train_of_order: &[u8],
     times: &[u32],
     out: &mut [u8],
 ) -> Printed
-    ensures { λ r. ⌜ Prints (reply-bytes (now (text .entry)) «by_timetable» orders trains reply (areas (now (pairs .entry)) (now («train_of_order» .entry)) (now (times .entry))))
+    ensures { λ r. ⌜ Prints (reply-bytes (now (text .entry)) (sheet .form) (sheetOf sheet) reply
+        (areas (now (pairs .entry)) (now («train_of_order» .entry)) (now (times .entry))))
         (now (out .entry)) r (now (out .exit)) ⌝ }
 {
     match reply {
@@ -99,23 +75,24 @@ fn print_reply(
             pairs: count,
             rounds,
         } => {
+            let form = sheet.form;
             let listed = first_pairs(pairs, count);
-            let loaded = first_orders(train_of_order, orders);
-            let timed = first_times(times, trains);
-            printer::print_plan(text, by_timetable, listed, loaded, timed, rounds, out)
+            let loaded = first_orders(train_of_order, sheet.order_count);
+            let timed = first_times(times, sheet.train_count);
+            printer::print_plan(text, form, listed, loaded, timed, rounds, out)
         }
         Reply::Refused(refusal) => printer::print_refusal(refusal, out),
     }
 }
 
-// The numbers of the first pairs, two a pair; all numbers if there are no more.
+// The numbers of the first pairs; all numbers if there are no more.
 fn first_pairs(pairs: &[i64], count: usize) -> &[i64]
-    ensures { λ r. ⌜ r .now ≡ take (2 * count) (now (pairs .entry)) ⌝ }
+    ensures { λ r. ⌜ r .now ≡ take (numbers-a-pair * count) (now (pairs .entry)) ⌝ }
 {
-    if pairs.len() / 2 < count {
+    if pairs.len() / NUMBERS_A_PAIR < count {
         return pairs;
     }
-    let end = 2 * count;
+    let end = NUMBERS_A_PAIR * count;
     &pairs[0..end]
 }
 
@@ -129,13 +106,13 @@ fn first_orders(trains: &[u8], orders: usize) -> &[u8]
     &trains[0..orders]
 }
 
-// The times of the first trains, two a train.
+// The times of the first trains.
 fn first_times(times: &[u32], trains: usize) -> &[u32]
-    ensures { λ r. ⌜ r .now ≡ take (2 * trains) (now (times .entry)) ⌝ }
+    ensures { λ r. ⌜ r .now ≡ take (numbers-a-train * trains) (now (times .entry)) ⌝ }
 {
-    if times.len() / 2 < trains {
+    if times.len() / NUMBERS_A_TRAIN < trains {
         return times;
     }
-    let end = 2 * trains;
+    let end = NUMBERS_A_TRAIN * trains;
     &times[0..end]
 }

@@ -5,46 +5,49 @@ use mathlib.Core.Bool.{Bool, true, false, _&&_}
 use Prim.Native.Nat.{ℕ, suc, _-_, _≤_, _<_}
 use lib.Dec.{leb, ltb, eqb}
 use Rattle.numbers.specs.Counting.{every, each}
-use Rattle.model.specs.Sheet.{Windows, Timetable, Form, windows, timetable, Sheet, places}
-use Rattle.model.specs.Limits.{Inside, inside, gap-range, window-range, capacity-range, running-range, departure-range, arrival-range, release-range, due-range, weight-range, window-counts, train-counts, order-counts}
+use Rattle.model.specs.Sheet.{Windows, Timetable, Paths, windows, timetable, Sheet, places}
+use Rattle.model.specs.Limits.{Inside, inside, gap-range, window-range, capacity-range, running-range, departure-range, arrival-range}
+use Rattle.model.specs.Limits.{release-range, due-range, weight-range, window-counts, train-counts, order-counts}
 use Rattle.model.specs.declared.Refusal.{Refusal}
 use Rattle.model.specs.declared.Refusal.the-variants.{OutOfRange, TooMany, KindMissing, OutOfOrder, PlacesDiffer}
+use Rattle.model.specs.declared.Admission.{Admission}
+use Rattle.model.specs.declared.Admission.the-variants.{Granted, Refused}
 
 -- ---- 4: not "one more of a kind than allowed"
 
-abbrev pub FewWindows : Form → Type 0
+abbrev pub FewWindows : Paths → Type 0
 FewWindows (windows w) = w .count ≤ window-counts .most
 FewWindows (timetable t) = Unit {0}
 
 pub record Few (s : Sheet) : Type 0 where
   pub orders : s .orders ≤ order-counts .most
   pub trains : s .trains ≤ train-counts .most
-  pub windows : FewWindows (s .form)
+  pub windows : FewWindows (s .paths)
 
-abbrev pub fewWindows : Form → Bool
+abbrev pub fewWindows : Paths → Bool
 fewWindows (windows w) = leb (w .count) (window-counts .most)
 fewWindows (timetable t) = true
 
 unfoldable pub few : Sheet → Bool
-few s = leb (s .orders) (order-counts .most) && leb (s .trains) (train-counts .most) && fewWindows (s .form)
+few s = leb (s .orders) (order-counts .most) && leb (s .trains) (train-counts .most) && fewWindows (s .paths)
 
 -- ---- 5: not "a kind is missing"
 
-abbrev pub SomeWindow : Form → Type 0
+abbrev pub SomeWindow : Paths → Type 0
 SomeWindow (windows w) = window-counts .least ≤ w .count
 SomeWindow (timetable t) = Unit {0}
 
 pub record Complete (s : Sheet) : Type 0 where
   pub orders : order-counts .least ≤ s .orders
   pub trains : train-counts .least ≤ s .trains
-  pub windows : SomeWindow (s .form)
+  pub windows : SomeWindow (s .paths)
 
-abbrev pub someWindow : Form → Bool
+abbrev pub someWindow : Paths → Bool
 someWindow (windows w) = leb (window-counts .least) (w .count)
 someWindow (timetable t) = true
 
 unfoldable pub complete : Sheet → Bool
-complete s = leb (order-counts .least) (s .orders) && leb (train-counts .least) (s .trains) && someWindow (s .form)
+complete s = leb (order-counts .least) (s .orders) && leb (train-counts .least) (s .trains) && someWindow (s .paths)
 
 -- ---- 2: not "value outside its range"
 
@@ -66,29 +69,29 @@ pub record TimesInRange (t : Timetable) (i : ℕ) : Type 0 where
   pub departure : Inside departure-range (t .departure i)
   pub arrival : Inside arrival-range (t .arrival i)
 
-abbrev pub FormInRange : Form → ℕ → Type 0
-FormInRange (windows w) q = WindowsInRange w q
-FormInRange (timetable t) q = (i : ℕ) → 1 ≤ i → i ≤ q → TimesInRange t i
+abbrev pub PathsInRange : Paths → ℕ → Type 0
+PathsInRange (windows w) q = WindowsInRange w q
+PathsInRange (timetable t) q = (i : ℕ) → 1 ≤ i → i ≤ q → TimesInRange t i
 
 pub record InRange (s : Sheet) : Type 0 where
   pub orders : (j : ℕ) → j < s .orders → OrderInRange s j
   pub capacity : (i : ℕ) → 1 ≤ i → i ≤ s .trains → Inside capacity-range (s .capacity i)
-  pub form : FormInRange (s .form) (s .trains)
+  pub paths : PathsInRange (s .paths) (s .trains)
 
 abbrev pub orderInRange : Sheet → ℕ → Bool
 orderInRange s j = inside release-range (s .release j) && inside due-range (s .due j) && inside weight-range (s .weight j)
 
-abbrev pub formInRange : Form → ℕ → Bool
-formInRange (windows w) q =
+abbrev pub pathsInRange : Paths → ℕ → Bool
+pathsInRange (windows w) q =
     inside gap-range (w .gap)
     && each (λ m. inside window-range (w .from m) && inside window-range (w .to m)) (w .count)
     && each (λ i. inside running-range (w .running i)) q
-formInRange (timetable t) q = each (λ i. inside departure-range (t .departure i) && inside arrival-range (t .arrival i)) q
+pathsInRange (timetable t) q = each (λ i. inside departure-range (t .departure i) && inside arrival-range (t .arrival i)) q
 
 unfoldable pub inRange : Sheet → Bool
 unfolding every
 inRange s =
-    every (orderInRange s) (s .orders) && each (λ i. inside capacity-range (s .capacity i)) (s .trains) && formInRange (s .form) (s .trains)
+    every (orderInRange s) (s .orders) && each (λ i. inside capacity-range (s .capacity i)) (s .trains) && pathsInRange (s .paths) (s .trains)
 
 -- ---- 6: not "window from > to, or from ≤ previous to; departure ≥ arrival; departures or arrivals not rising"
 
@@ -101,20 +104,20 @@ pub record TimesInOrder (t : Timetable) (q : ℕ) : Type 0 where
   pub departures : (i : ℕ) → 1 ≤ i → i ≤ q - 1 → t .departure i < t .departure (suc i)
   pub arrivals : (i : ℕ) → 1 ≤ i → i ≤ q - 1 → t .arrival i < t .arrival (suc i)
 
-abbrev pub FormInOrder : Form → ℕ → Type 0
-FormInOrder (windows w) q = WindowsInOrder w
-FormInOrder (timetable t) q = TimesInOrder t q
+abbrev pub PathsInOrder : Paths → ℕ → Type 0
+PathsInOrder (windows w) q = WindowsInOrder w
+PathsInOrder (timetable t) q = TimesInOrder t q
 
-abbrev pub formInOrder : Form → ℕ → Bool
-formInOrder (windows w) q = each (λ m. leb (w .from m) (w .to m)) (w .count) && each (λ m. ltb (w .to m) (w .from (suc m))) (w .count - 1)
-formInOrder (timetable t) q =
+abbrev pub pathsInOrder : Paths → ℕ → Bool
+pathsInOrder (windows w) q = each (λ m. leb (w .from m) (w .to m)) (w .count) && each (λ m. ltb (w .to m) (w .from (suc m))) (w .count - 1)
+pathsInOrder (timetable t) q =
     each (λ i. ltb (t .departure i) (t .arrival i)) q
     && each (λ i. ltb (t .departure i) (t .departure (suc i))) (q - 1)
     && each (λ i. ltb (t .arrival i) (t .arrival (suc i))) (q - 1)
 
 unfoldable pub inOrder : Sheet → Bool
 unfolding every
-inOrder s = formInOrder (s .form) (s .trains)
+inOrder s = pathsInOrder (s .paths) (s .trains)
 
 -- ---- 7: not "K_q differs from n"
 
@@ -131,17 +134,13 @@ pub record Admitted (s : Sheet) : Type 0 where
   pub few : Few s
   pub complete : Complete s
   pub in-range : InRange s
-  pub in-order : FormInOrder (s .form) (s .trains)
+  pub in-order : PathsInOrder (s .paths) (s .trains)
   pub balanced : Balanced s
-
-pub data Admission : Type 0 where
-  admitted : Admission
-  not-admitted : Refusal → Admission
 
 -- what a passed test leads to; a failed one refuses
 abbrev pub passed : Bool → Refusal → Admission → Admission
 passed true r next = next
-passed false r next = not-admitted r
+passed false r next = Refused r
 
 -- "A planning call tests its sheet itself: 4, 5, 2, 6, 7", with 0 returned: the first that fails decides
 unfoldable pub admission : Sheet → Admission
@@ -151,4 +150,4 @@ admission s =
     (passed (complete s) KindMissing
     (passed (inRange s) (OutOfRange 0)
     (passed (inOrder s) (OutOfOrder 0)
-    (passed (balanced s) PlacesDiffer admitted))))
+    (passed (balanced s) PlacesDiffer Granted))))

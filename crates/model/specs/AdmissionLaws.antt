@@ -1,13 +1,19 @@
 -- Each test of admission decides its proposition, and a sheet is admitted exactly if it passes them all. Assumes nothing.
-use mathlib.Core.Path.{_≡_, refl}
+use mathlib.Core.Path.{_≡_, refl, sym, subst}
 use mathlib.Core.Bool.{Bool, true, false, _&&_}
 use Prim.Native.Nat.{ℕ, suc, _-_, _≤_, _<_}
 use native.Mathlib.Omega.{arith}
 use Rattle.numbers.specs.Counting.{each}
 use Rattle.numbers.specs.Decides.{Decides, decides-le, decides-lt, decides-eq, decides-and, decides-iff, decides-every, decides-each}
-use Rattle.model.specs.Sheet.{Windows, Timetable, Form, windows, timetable, Sheet, places}
-use Rattle.model.specs.Limits.{Range, Inside, inside, gap-range, window-range, capacity-range, running-range, departure-range, arrival-range, release-range, due-range, weight-range}
-use Rattle.model.specs.Admission.{Few, FewWindows, few, fewWindows, Complete, SomeWindow, complete, someWindow, OrderInRange, orderInRange, WindowInRange, TimesInRange, FormInRange, formInRange, InRange, inRange, FormInOrder, formInOrder, inOrder, Balanced, balanced, Admitted, Admission, admitted, not-admitted, passed, admission}
+use Rattle.model.specs.Sheet.{Windows, Timetable, Paths, windows, timetable, Sheet, places}
+use Rattle.model.specs.Limits.{Range, Inside, inside, gap-range, window-range, capacity-range, running-range}
+use Rattle.model.specs.Limits.{departure-range, arrival-range, release-range, due-range, weight-range}
+use Rattle.model.specs.Refusal.{returned}
+use Rattle.model.specs.Admission.{Few, FewWindows, few, fewWindows, Complete, SomeWindow, complete, someWindow}
+use Rattle.model.specs.Admission.{OrderInRange, orderInRange, WindowInRange, TimesInRange, PathsInRange, pathsInRange, InRange, inRange}
+use Rattle.model.specs.Admission.{PathsInOrder, pathsInOrder, inOrder, Balanced, balanced, Admitted, passed, admission}
+use Rattle.model.specs.declared.Admission.{Admission}
+use Rattle.model.specs.declared.Admission.the-variants.{Granted, Refused}
 use Rattle.model.specs.declared.Refusal.{Refusal}
 use Rattle.model.specs.declared.Refusal.the-variants.{OutOfRange, TooMany, KindMissing, OutOfOrder, PlacesDiffer}
 
@@ -19,7 +25,7 @@ decides-inside r x = decides-and (decides-le (r .least) x) (decides-le x (r .mos
 
 -- ---- 4
 
-few-windows : (f : Form) → Decides (FewWindows f) (fewWindows f)
+few-windows : (f : Paths) → Decides (FewWindows f) (fewWindows f)
 few-windows (windows w) = decides-le _ _
 few-windows (timetable t) = decides-unit
 
@@ -27,11 +33,11 @@ pub decides-few : (s : Sheet) → Decides (Few s) (few s)
 unfolding few
 decides-few s =
     decides-iff (λ x. record { orders = x .0 .0; trains = x .0 .1; windows = x .1 }) (λ f. ((f .orders, f .trains), f .windows))
-    (decides-and (decides-and (decides-le _ _) (decides-le _ _)) (few-windows (s .form)))
+    (decides-and (decides-and (decides-le _ _) (decides-le _ _)) (few-windows (s .paths)))
 
 -- ---- 5
 
-some-window : (f : Form) → Decides (SomeWindow f) (someWindow f)
+some-window : (f : Paths) → Decides (SomeWindow f) (someWindow f)
 some-window (windows w) = decides-le _ _
 some-window (timetable t) = decides-unit
 
@@ -39,7 +45,7 @@ pub decides-complete : (s : Sheet) → Decides (Complete s) (complete s)
 unfolding complete
 decides-complete s =
     decides-iff (λ x. record { orders = x .0 .0; trains = x .0 .1; windows = x .1 }) (λ f. ((f .orders, f .trains), f .windows))
-    (decides-and (decides-and (decides-le _ _) (decides-le _ _)) (some-window (s .form)))
+    (decides-and (decides-and (decides-le _ _) (decides-le _ _)) (some-window (s .paths)))
 
 -- ---- 2
 
@@ -57,22 +63,22 @@ times-in-range t i =
     decides-iff (λ x. record { departure = x .0; arrival = x .1 }) (λ o. (o .departure, o .arrival))
     (decides-and (decides-inside departure-range _) (decides-inside arrival-range _))
 
-form-in-range : (f : Form) (q : ℕ) → Decides (FormInRange f q) (formInRange f q)
-form-in-range (windows w) q =
+paths-in-range : (f : Paths) (q : ℕ) → Decides (PathsInRange f q) (pathsInRange f q)
+paths-in-range (windows w) q =
     decides-iff (λ x. record { gap = x .0 .0; windows = x .0 .1; running = x .1 }) (λ o. ((o .gap, o .windows), o .running))
     (decides-and
     (decides-and (decides-inside gap-range (w .gap)) (decides-each {P = WindowInRange w} (window-in-range w) (w .count)))
     (decides-each {P = λ i. Inside running-range (w .running i)} (λ i. decides-inside running-range (w .running i)) q))
-form-in-range (timetable t) q = decides-each {P = TimesInRange t} (times-in-range t) q
+paths-in-range (timetable t) q = decides-each {P = TimesInRange t} (times-in-range t) q
 
 pub decides-in-range : (s : Sheet) → Decides (InRange s) (inRange s)
 unfolding inRange
 decides-in-range s =
-    decides-iff (λ x. record { orders = x .0 .0; capacity = x .0 .1; form = x .1 }) (λ o. ((o .orders, o .capacity), o .form))
+    decides-iff (λ x. record { orders = x .0 .0; capacity = x .0 .1; paths = x .1 }) (λ o. ((o .orders, o .capacity), o .paths))
     (decides-and
     (decides-and (decides-every {P = OrderInRange s} (order-in-range s) (s .orders))
     (decides-each {P = λ i. Inside capacity-range (s .capacity i)} (λ i. decides-inside capacity-range (s .capacity i)) (s .trains)))
-    (form-in-range (s .form) (s .trains)))
+    (paths-in-range (s .paths) (s .trains)))
 
 -- ---- 6
 
@@ -80,19 +86,21 @@ decides-in-range s =
 each-lt : (f g : ℕ → ℕ) (q : ℕ) → Decides ((i : ℕ) → 1 ≤ i → i ≤ q → f i < g i) (each (λ i. lib.Dec.ltb (f i) (g i)) q)
 each-lt f g q = decides-each {P = λ i. f i < g i} (λ i. decides-lt (f i) (g i)) q
 
-form-in-order : (f : Form) (q : ℕ) → Decides (FormInOrder f q) (formInOrder f q)
-form-in-order (windows w) q =
+paths-in-order : (f : Paths) (q : ℕ) → Decides (PathsInOrder f q) (pathsInOrder f q)
+paths-in-order (windows w) q =
     decides-iff (λ x. record { forward = x .0; apart = x .1 }) (λ o. (o .forward, o .apart))
-    (decides-and (decides-each {P = λ m. w .from m ≤ w .to m} (λ m. decides-le (w .from m) (w .to m)) (w .count)) (each-lt (w .to) (λ m. w .from (suc m)) (w .count - 1)))
-form-in-order (timetable t) q =
+    (decides-and
+    (decides-each {P = λ m. w .from m ≤ w .to m} (λ m. decides-le (w .from m) (w .to m)) (w .count))
+    (each-lt (w .to) (λ m. w .from (suc m)) (w .count - 1)))
+paths-in-order (timetable t) q =
     decides-iff (λ x. record { forward = x .0 .0; departures = x .0 .1; arrivals = x .1 }) (λ o. ((o .forward, o .departures), o .arrivals))
     (decides-and
     (decides-and (each-lt (t .departure) (t .arrival) q) (each-lt (t .departure) (λ i. t .departure (suc i)) (q - 1)))
     (each-lt (t .arrival) (λ i. t .arrival (suc i)) (q - 1)))
 
-pub decides-in-order : (s : Sheet) → Decides (FormInOrder (s .form) (s .trains)) (inOrder s)
+pub decides-in-order : (s : Sheet) → Decides (PathsInOrder (s .paths) (s .trains)) (inOrder s)
 unfolding inOrder
-decides-in-order s = form-in-order (s .form) (s .trains)
+decides-in-order s = paths-in-order (s .paths) (s .trains)
 
 -- ---- 7
 
@@ -105,20 +113,20 @@ decides-balanced s = decides-eq (places (s .capacity) (s .trains)) (s .orders)
 -- the one way through a row of tests
 pub data Passed (P : Type 0) (r : Refusal) (next : Admission) : Admission → Type 0 where
   went-on : P → Passed P r next next
-  stopped : ¬ P → Passed P r next (not-admitted r)
+  stopped : ¬ P → Passed P r next (Refused r)
 
 through : {P : Type 0} {b : Bool} → Decides P b → (r : Refusal) (next : Admission) → Passed P r next (passed b r next)
 through {b = true} d r next = went-on (d .sound tt)
 through {b = false} d r next = stopped (λ p. d .complete p)
 
-refusal-is-not : (r : Refusal) → ¬ (not-admitted r ≡ admitted)
+refusal-is-not : (r : Refusal) → ¬ (Refused r ≡ Granted)
 refusal-is-not r e = let z : _≡_ {A = ℕ} 0 1 = cc in omega arith
 
 module _ {P : Type 0} {b : Bool} (d : Decides P b) (r : Refusal) where
-  passed-in : (next : Admission) → passed b r next ≡ admitted → P × (next ≡ admitted)
+  passed-in : (next : Admission) → passed b r next ≡ Granted → P × (next ≡ Granted)
   passed-in next e = go (passed b r next) (through d r next) e
     where
-      go : (x : Admission) → Passed P r next x → x ≡ admitted → P × (next ≡ admitted)
+      go : (x : Admission) → Passed P r next x → x ≡ Granted → P × (next ≡ Granted)
       go x (went-on p) u = (p, u)
       go x (stopped n) u = absurd (refusal-is-not r u)
 
@@ -130,11 +138,11 @@ module _ {P : Type 0} {b : Bool} (d : Decides P b) (r : Refusal) where
       go x (stopped n) = absurd (n p)
 
 -- A SHEET IS ADMITTED EXACTLY IF THE PROPOSITIONS HOLD
-pub admitted-means : (s : Sheet) → (admission s ≡ admitted → Admitted s) × (Admitted s → admission s ≡ admitted)
+pub admitted-means : (s : Sheet) → (admission s ≡ Granted → Admitted s) × (Admitted s → admission s ≡ Granted)
 unfolding admission
 admitted-means s = (into, back)
   where
-    into : admission s ≡ admitted → Admitted s
+    into : admission s ≡ Granted → Admitted s
     into e₄ =
         let (few₄, e₅) = passed-in (decides-few s) (TooMany 0) _ e₄ in
         let (complete₅, e₂) = passed-in (decides-complete s) KindMissing _ e₅ in
@@ -143,7 +151,7 @@ admitted-means s = (into, back)
         let (balanced₇, e) = passed-in (decides-balanced s) PlacesDiffer _ e₇ in
         record { few = few₄; complete = complete₅; in-range = range₂; in-order = order₆; balanced = balanced₇ }
 
-    back : Admitted s → admission s ≡ admitted
+    back : Admitted s → admission s ≡ Granted
     back a =
         rw (
           passed-on (decides-few s) (TooMany 0) _ (a .few),
@@ -152,3 +160,21 @@ admitted-means s = (into, back)
           passed-on (decides-in-order s) (OutOfOrder 0) _ (a .in-order),
           passed-on (decides-balanced s) PlacesDiffer _ (a .balanced),
         )
+
+-- ---- "always with 0 returned"
+
+module _ (r : Refusal) where
+  -- a test that refuses with 0 is passed, or refuses with 0
+  passed-returns : (b : Bool) (r′ : Refusal) (next : Admission) → returned r′ ≡ 0 → (next ≡ Refused r → returned r ≡ 0)
+      → passed b r′ next ≡ Refused r → returned r ≡ 0
+  passed-returns true r′ next z h e = h e
+  passed-returns false r′ next z h e = let same : r′ ≡ r = cc in subst (λ (x : Refusal). returned x ≡ 0) same z
+
+  pub admission-returns : (s : Sheet) → admission s ≡ Refused r → returned r ≡ 0
+  unfolding admission
+  admission-returns s =
+      passed-returns (few s) (TooMany 0) _ refl
+      (passed-returns (complete s) KindMissing _ refl
+      (passed-returns (inRange s) (OutOfRange 0) _ refl
+      (passed-returns (inOrder s) (OutOfOrder 0) _ refl
+      (passed-returns (balanced s) PlacesDiffer _ refl (λ e. absurd (refusal-is-not r (sym e)))))))

@@ -6,15 +6,17 @@ use Prim.Native.Nat.{ℕ, zero, suc, _+_, _-_, _≤_, _<_}
 use native.Mathlib.Omega.{arith}
 use lib.Dec.{eqb}
 use lib.IntN.{pos}
+use lib.ListN.{replicate}
 use Rattle.numbers.specs.Counting.{at, nth, count}
 use Rattle.model.specs.Schedule.{Open, Schedule}
 use Rattle.model.specs.Arrival.{arrivalBehind}
 use Rattle.model.specs.Lateness.{greatest-lateness, pairOf}
-use Rattle.model.specs.Memory.{windowsOf}
-use Rattle.model.specs.Admission.{admitted, admission}
+use Rattle.model.specs.Memory.{windowsOf, fromWindows}
+use Rattle.model.specs.Admission.{admission}
+use Rattle.model.specs.declared.Admission.the-variants.{Granted}
 use Rattle.model.specs.Cases.{cases, case-a, memory-a}
 
-pub cases-are-admitted : map admission cases ≡ (admitted ∷ admitted ∷ admitted ∷ admitted ∷ admitted ∷ admitted ∷ admitted ∷ admitted ∷ admitted ∷ [])
+pub cases-are-admitted : map admission cases ≡ replicate 9 Granted
 unfolding cases admission
 cases-are-admitted = refl
 
@@ -56,10 +58,10 @@ printed-plan =
     released (suc (suc zero)) l = omega arith
     released (suc (suc (suc j))) l = absurd (omega arith)
 
-    first-window : {t : ℕ} → t ≤ 100 → Open (windowsOf memory-a) t
+    first-window : {t : ℕ} → t ≤ 100 → Open (windowsOf (fromWindows memory-a)) t
     first-window l = record { window = 1; numbered = (omega arith, omega arith); begun = omega arith; not-over = l }
 
-    in-window : (i : ℕ) → 1 ≤ i → i ≤ 2 → Open (windowsOf memory-a) (nth departure-a i)
+    in-window : (i : ℕ) → 1 ≤ i → i ≤ 2 → Open (windowsOf (fromWindows memory-a)) (nth departure-a i)
     in-window zero l k = absurd (omega arith)
     in-window (suc zero) l k = first-window (omega arith)
     in-window (suc (suc zero)) l k = first-window (omega arith)

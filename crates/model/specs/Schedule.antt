@@ -6,7 +6,7 @@ use Prim.Native.Nat.{ℕ, _+_, _-_, _≤_, _<_}
 use lib.Dec.{eqb}
 use lib.ListN.{length}
 use Rattle.numbers.specs.Counting.{at, nth, count}
-use Rattle.model.specs.Sheet.{Windows, Timetable, Form, windows, timetable, Sheet}
+use Rattle.model.specs.Sheet.{Windows, Timetable, Paths, windows, timetable, Sheet}
 
 -- instant t lies in a window, both ends included
 pub record Open (w : Windows) (t : ℕ) : Type 0 where
@@ -26,7 +26,7 @@ pub record InWindows (w : Windows) (q : ℕ) (S : ℕ → ℕ) : Type 0 where
 pub record OnTimetable (t : Timetable) (q : ℕ) (S : ℕ → ℕ) : Type 0 where
   pub fixed : (i : ℕ) → 1 ≤ i → i ≤ q → S i ≡ t .departure i
 
-abbrev pub Departures : Form → ℕ → (ℕ → ℕ) → Type 0
+abbrev pub Departures : Paths → ℕ → (ℕ → ℕ) → Type 0
 Departures (windows w) = InWindows w
 Departures (timetable t) = OnTimetable t
 
@@ -41,4 +41,4 @@ pub record Schedule (s : Sheet) (train departure : List ℕ) : Type 0 where
   -- "each with release ≤ S_i"
   pub released : (j : ℕ) → j < s .orders → s .release j ≤ nth departure (at train j)
   -- the two further points of the window form, or the fixed departures
-  pub departures : Departures (s .form) (s .trains) (nth departure)
+  pub departures : Departures (s .paths) (s .trains) (nth departure)

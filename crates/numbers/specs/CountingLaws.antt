@@ -1,7 +1,7 @@
 -- Laws of the counting words. Assumes nothing.
 use mathlib.Core.Path.{_≡_, refl, sym, _∙_, subst, ap}
 use mathlib.Core.Logic.{_⊎_, inl, inr}
-use mathlib.Core.Bool.{Bool, true, false}
+use mathlib.Core.Bool.{Bool, true, false, _&&_}
 use mathlib.Core.List.{List, [], _∷_, _++_}
 use Prim.Native.Nat.{ℕ, zero, suc, _+_, _≤_, _<_}
 use native.Mathlib.Omega.{arith}
@@ -9,7 +9,7 @@ use native.Mathlib.Numerals.{add-one}
 use lib.Dec.{eqb}
 use lib.ListN.{length, getD, length-append, List·getD-append}
 use lib.Seq.{getD-at}
-use Rattle.numbers.specs.Counting.{one-if, count, table}
+use Rattle.numbers.specs.Counting.{one-if, count, every, table}
 use Rattle.numbers.specs.Decides.{Decides, decides-eq, decided, extend}
 
 -- ---- one test
@@ -147,6 +147,54 @@ count-point (suc n) j l = go (decided (decides-eq j n)) (λ k. count-point n j k
     go : (j ≡ n) ⊎ (¬ (j ≡ n)) → (j < n → count (λ y. eqb y j) n ≡ 1) → one-if (eqb n j) + count (λ y. eqb y j) n ≡ 1
     go (inl e) ih = omega (arith, bit-yes (decides-eq n j) (sym e), count-none (λ y. decides-eq y j) n (λ y k z. omega arith))
     go (inr e) ih = omega (arith, bit-no (decides-eq n j) (λ z. e (sym z)), ih (omega arith))
+
+-- ---- a test of every place
+
+-- from its start, one place more at a time
+pub every-start : (p : ℕ → Bool) → true ≡ every p 0
+unfolding every
+every-start p = refl
+
+pub every-more : (p : ℕ → Bool) (n : ℕ) → every p (n + 1) ≡ (p n && every p n)
+unfolding every
+every-more p n = rw add-one
+
+pub every-next : (p : ℕ → Bool) (n : ℕ) → every p n ≡ true → p n ≡ true → every p (n + 1) ≡ true
+every-next p n e h = every-more p n ∙ rw (h, e)
+
+pub every-fails : (p : ℕ → Bool) (n j : ℕ) → j < n → p j ≡ false → every p n ≡ false
+unfolding every
+every-fails p zero j l e = absurd (omega arith)
+every-fails p (suc n) j l e = go (decided (decides-eq j n)) (λ k. every-fails p n j k e)
+  where
+    no-and : (b : Bool) → (b && false) ≡ false
+    no-and true = refl
+    no-and false = refl
+
+    go : (j ≡ n) ⊎ (¬ (j ≡ n)) → (j < n → every p n ≡ false) → (p n && every p n) ≡ false
+    go (inl s) ih = rw (rw s at e)
+    go (inr s) ih = rw (ih (omega arith)) (no-and (p n))
+
+-- two tests that agree
+pub every-same-below : (p q : ℕ → Bool) (n : ℕ) → ((j : ℕ) → j < n → p j ≡ q j) → every p n ≡ every q n
+unfolding every
+every-same-below p q zero h = refl
+every-same-below p q (suc n) h = rw (h n (omega arith), every-same-below p q n (λ j l. h j (omega arith)))
+
+pub every-same : (p q : ℕ → Bool) → ((j : ℕ) → p j ≡ q j) → (n : ℕ) → every p n ≡ every q n
+every-same p q h n = every-same-below p q n (λ j l. h j)
+
+-- two tests at once
+pub every-and : (p q : ℕ → Bool) (n : ℕ) → every (λ j. p j && q j) n ≡ (every p n && every q n)
+unfolding every
+every-and p q zero = refl
+every-and p q (suc n) = rw (every-and p q n) (swap (p n) (q n) (every p n) (every q n))
+  where
+    swap : (a b c d : Bool) → (a && b && (c && d)) ≡ (a && c && (b && d))
+    swap true true c d = refl
+    swap true false true d = refl
+    swap true false false d = refl
+    swap false b c d = refl
 
 -- ---- tables
 

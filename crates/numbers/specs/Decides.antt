@@ -41,6 +41,13 @@ pub test-true : {P : Type 0} {b : Bool} → Decides P b → P → b ≡ true
 test-true {b = true} s p = refl
 test-true {b = false} s p = absurd (s .complete p)
 
+pub test-means : {P : Type 0} {b : Bool} → Decides P b → b ≡ true → P
+test-means {b = true} s e = s .sound tt
+test-means {b = false} s e = absurd (let z : _≡_ {A = ℕ} 0 1 = cc in omega arith)
+
+pub test-fails : {P : Type 0} {b : Bool} → Decides P b → b ≡ false → ¬ P
+test-fails d e p = rw e at (d .complete p)
+
 pub test-false : {P : Type 0} {b : Bool} → Decides P b → ¬ P → b ≡ false
 test-false {b = true} s p = absurd (p (s .sound tt))
 test-false {b = false} s p = refl

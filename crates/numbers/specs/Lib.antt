@@ -2,3 +2,7 @@ pub mod Counting
 pub mod Decides
 pub mod CountingLaws
 pub mod SignedLaws
+pub mod ListLaws
+pub mod Over
+pub mod OverLaws
+pub mod OneMoreLaws

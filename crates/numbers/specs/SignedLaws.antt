@@ -97,6 +97,11 @@ sub-neg a b h = rw (lt-ltb a b h)
 pub sub-pos : (a b : ℕ) → b ≤ a → subℕ a b ≡ pos (a - b)
 sub-pos a b h = rw (le-ltb a b h)
 
+-- a number is below every natural that its size is below
+pub size-below : (z : ℤ) (top : ℕ) → natAbs z < top → z <ℤ pos top
+size-below (pos n) top h = ltZ-yes (lt→ltb n top h)
+size-below (negsuc n) top h = ltZ-yes tt
+
 -- a difference is no greater in size than its parts
 pub sub-size : (a b top : ℕ) → a ≤ top → b ≤ top → natAbs (subℕ a b) ≤ top
 sub-size a b top u v = go (decided (decides-lt a b))

@@ -1,20 +1,47 @@
-// The planning calls: one for each form. A sheet in memory goes in by value, and three areas are lent: pairs (two numbers a pair: last arrival, worst
-// weighted lateness), the train of each order, and the times of each train (two numbers a train: departure, arrival).
-mod calls;
-mod grading;
-mod loading;
-mod ranking;
-mod recording;
-mod search;
-mod timing;
-
-use admission::Verdict;
+// The planning calls. A sheet in memory goes in by value, and three areas are lent: pairs (two numbers a pair: last arrival, worst weighted lateness),
+// the train of each order, and the times of each train (two numbers a train: departure, arrival).
+use model::Admission;
+use model::Refusal;
 use model::Reply;
+use model::Sheet;
 use model::TimetableSheet;
 use model::WindowSheet;
-ghost use Rattle.model.specs.Memory.{windowSheet, timetableSheet};
-ghost use Rattle.planner.specs.Told.{areas};
+use model::limits::NUMBERS_A_PAIR;
+use model::limits::NUMBERS_A_TRAIN;
+ghost use mathlib.Core.Path.{_≡_};
+ghost use mathlib.Core.Bool.{_&&_};
+ghost use Prim.Native.Nat.{_*_, _≤_};
+ghost use lib.Dec.{leb};
+ghost use Rattle.model.specs.Memory.{sheetOf, windowSheet, timetableSheet};
+ghost use Rattle.model.specs.Limits.{numbers-a-pair, numbers-a-train, order-counts, train-counts};
+ghost use Rattle.rounds.specs.Told.{areas};
 ghost use Rattle.planner.specs.Planning.{PlanningCall};
+
+// Test 10: whether each area is long enough for an admitted sheet of n orders and q trains.
+fn are_long_enough(n: usize, q: usize, pairs: usize, trains: usize, times: usize) -> bool
+    requires { ⌜ (n ≤ order-counts .most) × (q ≤ train-counts .most) ⌝ }
+    ensures { λ r. ⌜ r ≡ (leb (numbers-a-pair * (n * q)) pairs && leb n trains && leb (numbers-a-train * q) times) ⌝ }
+{
+    (NUMBERS_A_PAIR * (n * q) <= pairs) & (n <= trains) & (NUMBERS_A_TRAIN * q <= times)
+}
+
+// Plans a sheet of either form: tests 4, 5, 2, 6 and 7, then 10, then the rounds.
+pub fn plan(sheet: Sheet, pairs: &mut [i64], train_of_order: &mut [u8], times: &mut [u32]) -> Reply
+    ensures { λ r. ⌜ PlanningCall (sheetOf sheet) r
+        (areas (now (pairs .exit)) (now («train_of_order» .exit)) (now (times .exit)))
+        (areas (now (pairs .entry)) (now («train_of_order» .entry)) (now (times .entry))) ⌝ }
+{
+    let admission = admission::admit(sheet);
+    if let Admission::Refused(refusal) = admission {
+        return Reply::Refused(refusal);
+    }
+    let n = sheet.order_count;
+    let q = sheet.train_count;
+    if are_long_enough(n, q, pairs.len(), train_of_order.len(), times.len()) {
+        return search::run(sheet, pairs, train_of_order, times);
+    }
+    Reply::Refused(Refusal::AreaTooShort)
+}
 
 // Plans a sheet of the window form.
 pub fn plan_windows(
@@ -24,24 +51,11 @@ pub fn plan_windows(
     times: &mut [u32],
 ) -> Reply
     ensures { λ r. ⌜ PlanningCall (windowSheet sheet) r
-        (areas (now (pairs .exit)) (now («train_of_order» .exit)) (now (times .exit))) (areas (now (pairs .entry)) (now («train_of_order» .entry)) (now (times .entry))) ⌝ }
+        (areas (now (pairs .exit)) (now («train_of_order» .exit)) (now (times .exit)))
+        (areas (now (pairs .entry)) (now («train_of_order» .entry)) (now (times .entry))) ⌝ }
 {
-    let verdict = admission::admit_windows(sheet);
-    if let Verdict::Refused(refusal) = verdict {
-        return Reply::Refused(refusal);
-    }
-    calls::on_windows(
-        sheet.gap,
-        sheet.window_count,
-        sheet.train_count,
-        sheet.order_count,
-        &sheet.window_from,
-        &sheet.window_to,
-        &sheet.capacity,
-        &sheet.running,
-        &sheet.release,
-        &sheet.due,
-        &sheet.weight,
+    plan(
+        model::borders::from_windows(sheet),
         pairs,
         train_of_order,
         times,
@@ -56,21 +70,11 @@ pub fn plan_timetable(
     times: &mut [u32],
 ) -> Reply
     ensures { λ r. ⌜ PlanningCall (timetableSheet sheet) r
-        (areas (now (pairs .exit)) (now («train_of_order» .exit)) (now (times .exit))) (areas (now (pairs .entry)) (now («train_of_order» .entry)) (now (times .entry))) ⌝ }
+        (areas (now (pairs .exit)) (now («train_of_order» .exit)) (now (times .exit)))
+        (areas (now (pairs .entry)) (now («train_of_order» .entry)) (now (times .entry))) ⌝ }
 {
-    let verdict = admission::admit_timetable(sheet);
-    if let Verdict::Refused(refusal) = verdict {
-        return Reply::Refused(refusal);
-    }
-    calls::on_timetable(
-        sheet.train_count,
-        sheet.order_count,
-        &sheet.capacity,
-        &sheet.departure,
-        &sheet.arrival,
-        &sheet.release,
-        &sheet.due,
-        &sheet.weight,
+    plan(
+        model::borders::from_timetable(sheet),
         pairs,
         train_of_order,
         times,

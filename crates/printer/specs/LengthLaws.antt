@@ -1,6 +1,6 @@
 -- How many bytes lines have at most, where every number is below 1,000,000,000. Assumes nothing.
 use mathlib.Core.Path.{_≡_, refl}
-use mathlib.Core.Bool.{Bool, true, false, cond}
+use mathlib.Core.Bool.{Bool, true, false}
 use mathlib.Core.List.{List, [], _∷_, _++_}
 use Prim.Native.Nat.{ℕ, zero, suc, _+_, _*_, _/_, _%_, _≤_, _<_}
 use native.Mathlib.Omega.{arith}
@@ -9,10 +9,12 @@ use lib.IntN.{ℤ, pos, negsuc, natAbs}
 use lib.ListN.{length, getD, length-append, length-take}
 use borrow.Author.Tests.{ltb-true, ltb-false}
 use Rattle.model.specs.Refusal.{number, returned}
+use Rattle.model.specs.Limits.{order-counts, most-pair-numbers, most-time-numbers}
+use Rattle.model.specs.declared.Form.{Form}
 use Rattle.model.specs.declared.Refusal.{Refusal}
-use Rattle.model.specs.declared.Refusal.the-variants.{Malformed, OutOfRange, KindTooEarly, TooMany, KindMissing, OutOfOrder, PlacesDiffer, NoSchedule, RoundLimit, AreaTooShort}
+use Rattle.model.specs.declared.Refusal.the-variants.{Malformed, OutOfRange, KindTooEarly, TooMany, KindMissing, OutOfOrder, PlacesDiffer, NoSchedule}
+use Rattle.model.specs.declared.Refusal.the-variants.{RoundLimit, AreaTooShort}
 use Rattle.sheet.specs.NameLaws.{name-lies}
-use Rattle.sheet.specs.declared.Form.the-variants.{Windows, Timetable}
 use Rattle.printer.specs.Decimal.{digit, decimal, signed}
 use Rattle.printer.specs.DecimalLaws.{decimal-one, decimal-more}
 use Rattle.printer.specs.Lines.{pair-line, time-line, order-line, rounds-line, refusal-line, pair-lines, time-lines, order-lines, name-of, plan-bytes}
@@ -34,7 +36,8 @@ one-digit n l = rw (decimal-one n l) (omega arith)
 
 pub nine-digits : (n : ℕ) → n < 1000000000 → length (decimal n) ≤ 9
 nine-digits =
-    one-more 100000000 8 (one-more 10000000 7 (one-more 1000000 6 (one-more 100000 5 (one-more 10000 4 (one-more 1000 3 (one-more 100 2 (one-more 10 1 one-digit)))))))
+    one-more 100000000 8 (one-more 10000000 7 (one-more 1000000 6 (one-more 100000 5 (one-more 10000 4
+    (one-more 1000 3 (one-more 100 2 (one-more 10 1 one-digit)))))))
 
 pub signed-short : (z : ℤ) → natAbs z < 1000000000 → length (signed z) ≤ 10
 unfolding signed
@@ -113,11 +116,9 @@ order-lines-short name trains (suc m) short h =
     )
 
 -- an order's name has at most 12 bytes
-name-short : (by-timetable : Bool) (text : List ℕ) (j : ℕ) → length (name-of by-timetable text j) ≤ 12
+name-short : (form : Form) (text : List ℕ) (j : ℕ) → length (name-of form text j) ≤ 12
 unfolding name-of
-name-short by-timetable text j =
-    let form = cond by-timetable Timetable Windows in
-    simp length-take (omega (arith, name-lies form text j .1))
+name-short form text j = simp length-take (omega (arith, name-lies form text j .1))
 
 -- what bounds the numbers of a plan
 pub record Small (pairs : List ℤ) (trains times : List ℕ) (rounds : ℕ) : Type 0 where
@@ -130,14 +131,15 @@ four-short : (a b c d : List ℕ) (i j k l m : ℕ) → length a ≤ i → lengt
 four-short a b c d i j k l m p q r s t = omega (arith, length-append (a ++ b ++ c) d, length-append (a ++ b) c, length-append a b)
 
 -- A PLAN OF AT MOST 6,400 PAIRS, 200 ORDERS AND 32 TRAINS HAS AT MOST 163,840 BYTES
-pub plan-short : (text : List ℕ) (by-timetable : Bool) (pairs : List ℤ) (trains times : List ℕ) (rounds : ℕ)
-    → length pairs ≤ 12800 → length trains ≤ 200 → length times ≤ 64 → Small pairs trains times rounds
-    → length (plan-bytes text by-timetable pairs trains times rounds) ≤ 163840
+pub plan-short : (text : List ℕ) (form : Form) (pairs : List ℤ) (trains times : List ℕ) (rounds : ℕ)
+    → length pairs ≤ most-pair-numbers → length trains ≤ order-counts .most → length times ≤ most-time-numbers → Small pairs trains times rounds
+    → length (plan-bytes text form pairs trains times rounds) ≤ 163840
 unfolding plan-bytes
-plan-short text by-timetable pairs trains times rounds p o t s =
-    four-short (pair-lines pairs (length pairs / 2)) (time-lines times (length times / 2)) (order-lines (name-of by-timetable text) trains (length trains)) (rounds-line rounds)
+plan-short text form pairs trains times rounds p o t s =
+    let names = name-of form text in
+    four-short (pair-lines pairs (length pairs / 2)) (time-lines times (length times / 2)) (order-lines names trains (length trains)) (rounds-line rounds)
     (24 * (length pairs / 2)) (32 * (length times / 2)) (25 * length trains) 12 163840
     (pair-lines-short pairs (length pairs / 2) (λ k l. s .pairs-small k (omega arith)))
     (time-lines-short times (length times / 2) (omega arith) (λ k l. s .times-small k (omega arith)))
-    (order-lines-short (name-of by-timetable text) trains (length trains) (name-short by-timetable text) (s .trains-small))
+    (order-lines-short names trains (length trains) (name-short form text) (s .trains-small))
     (rounds-line-short rounds (s .rounds-small)) (omega arith)

@@ -1,12 +1,11 @@
 -- DOCUMENT 01, "THE PRINTED PLAN", as a definition of bytes: `P` is 80, `D` 68, `L` 76, `R` 82, `E` 69, a comma 44, and "each line ends with byte 10".
-use mathlib.Core.Bool.{Bool, cond}
 use mathlib.Core.List.{List, [], _∷_, _++_}
 use Prim.Native.Nat.{ℕ, zero, suc, _+_, _*_, _/_}
 use lib.IntN.{ℤ, pos}
 use lib.ListN.{length, getD, take, drop}
 use Rattle.model.specs.Refusal.{number, returned}
 use Rattle.model.specs.declared.Refusal.{Refusal}
-use Rattle.sheet.specs.declared.Form.the-variants.{Windows, Timetable}
+use Rattle.model.specs.declared.Form.{Form}
 use Rattle.sheet.specs.OrderNames.{nameIn}
 use Rattle.printer.specs.Decimal.{decimal, signed}
 
@@ -51,9 +50,9 @@ time-lines times zero = []
 time-lines times (suc k) = time-lines times k ++ time-line (suc k) (getD times (2 * k) 0) (getD times (2 * k + 1) 0)
 
 -- the name of order j of a text, by the sheet's definition
-unfoldable pub name-of : (by-timetable : Bool) → (text : List ℕ) → (j : ℕ) → List ℕ
+unfoldable pub name-of : Form → (text : List ℕ) → (j : ℕ) → List ℕ
 unfolding nameIn
-name-of by-timetable text j = let s = nameIn (cond by-timetable Timetable Windows) text j in take (s .long) (drop (s .start) text)
+name-of form text j = let s = nameIn form text j in take (s .long) (drop (s .start) text)
 
 -- orders 1 to k, each with its train
 unfoldable pub order-lines : (name : ℕ → List ℕ) → (trains : List ℕ) → (k : ℕ) → List ℕ
@@ -68,7 +67,6 @@ plan-named name pairs trains times rounds =
     pair-lines pairs (length pairs / 2) ++ time-lines times (length times / 2) ++ order-lines name trains (length trains) ++ rounds-line rounds
 
 -- with the names from the sheet's text
-unfoldable pub plan-bytes :
-    (text : List ℕ) (by-timetable : Bool) (pairs : List ℤ) (trains times : List ℕ) (rounds : ℕ) → List ℕ
+unfoldable pub plan-bytes : (text : List ℕ) → Form → (pairs : List ℤ) (trains times : List ℕ) (rounds : ℕ) → List ℕ
 unfolding name-of plan-named
-plan-bytes text by-timetable pairs trains times rounds = plan-named (name-of by-timetable text) pairs trains times rounds
+plan-bytes text form pairs trains times rounds = plan-named (name-of form text) pairs trains times rounds

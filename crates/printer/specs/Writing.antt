@@ -6,7 +6,7 @@ use mathlib.Core.List.{List, [], _∷_}
 use Prim.Native.Nat.{ℕ, _+_}
 use lib.Dec.{ltb, leb}
 use lib.ListN.{length, set}
-use Rattle.rounds.specs.Areas.{over}
+use Rattle.numbers.specs.Over.{over}
 use Rattle.printer.specs.declared.Place.{Place}
 use Rattle.printer.specs.declared.Place.the-variants.{At, Past}
 use Rattle.printer.specs.declared.Printed.{Printed}

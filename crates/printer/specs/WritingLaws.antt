@@ -9,7 +9,7 @@ use lib.Dec.{ltb, leb}
 use lib.ListN.{length, set, length-set, drop}
 use lib.Seq.{sets, sets-eq}
 use borrow.Author.Tests.{lt-ltb, le-ltb, leb-true, leb-false, ltb-true, ltb-false}
-use Rattle.rounds.specs.Areas.{over}
+use Rattle.numbers.specs.Over.{over}
 use Rattle.printer.specs.declared.Place.{Place}
 use Rattle.printer.specs.declared.Place.the-variants.{At, Past}
 use Rattle.printer.specs.declared.Printed.the-variants.{Bytes, TooShort}

@@ -2,14 +2,13 @@
 mod fields;
 mod lines;
 
+use model::Form;
 use model::Refusal;
-use sheet::Form;
 use sheet::NamePlaces;
 ghost use mathlib.Core.Path.{_≡_};
-ghost use mathlib.Core.Bool.{cond};
-ghost use Rattle.sheet.specs.OrderNames.{namesIn};
+ghost use Rattle.sheet.specs.OrderNames.{NamesLie};
 ghost use Rattle.printer.specs.Lines.{plan-named, plan-bytes, refusal-line};
-ghost use Rattle.printer.specs.Names.{name-by, NamesLie};
+ghost use Rattle.printer.specs.Names.{name-by};
 ghost use Rattle.printer.specs.Writing.{Prints, state, pass};
 
 // Where the next byte goes in the buffer, or that a byte did not fit.
@@ -28,25 +27,21 @@ pub enum Printed {
 // names of the orders from the sheet's text. A lone last number of the pairs or of the times is passed over.
 pub fn print_plan(
     text: &[u8],
-    by_timetable: bool,
+    form: Form,
     pairs: &[i64],
     train_of_order: &[u8],
     times: &[u32],
     rounds: usize,
     out: &mut [u8],
 ) -> Printed
-    ensures { λ r. ⌜ Prints (plan-bytes (now (text .entry)) «by_timetable» (now (pairs .entry)) (now («train_of_order» .entry)) (now (times .entry)) rounds)
+    ensures { λ r. ⌜ Prints
+        (plan-bytes (now (text .entry)) form (now (pairs .entry)) (now («train_of_order» .entry)) (now (times .entry)) rounds)
         (now (out .entry)) r (now (out .exit)) ⌝ }
 {
-    let names = names_of(text, by_timetable);
-    let count = names.count;
-    let start = names.start;
-    let long = names.length;
+    let names = sheet::name_places(text, form);
     let end = plan_lines(
         text,
-        count,
-        &start,
-        &long,
+        names,
         pairs,
         train_of_order,
         times,
@@ -57,18 +52,7 @@ pub fn print_plan(
     let Place::At(length) = end else {
         return Printed::TooShort;
     };
-    plan_lines(
-        text,
-        count,
-        &start,
-        &long,
-        pairs,
-        train_of_order,
-        times,
-        rounds,
-        out,
-        true,
-    );
+    plan_lines(text, names, pairs, train_of_order, times, rounds, out, true);
     Printed::Bytes(length)
 }
 
@@ -84,22 +68,10 @@ pub fn print_refusal(refusal: Refusal, out: &mut [u8]) -> Printed
     Printed::Bytes(length)
 }
 
-// Where the names of a text's orders stand.
-fn names_of(text: &[u8], by_timetable: bool) -> NamePlaces
-    ensures { λ r. ⌜ r ≡ namesIn (cond «by_timetable» Form.Timetable Form.Windows) (now (text .entry)) ⌝ }
-{
-    if by_timetable {
-        return sheet::name_places(text, Form::Timetable);
-    }
-    sheet::name_places(text, Form::Windows)
-}
-
 // All lines of a plan, from the front of the buffer.
 fn plan_lines(
     text: &[u8],
-    count: usize,
-    start: &[usize],
-    long: &[usize],
+    names: NamePlaces,
     pairs: &[i64],
     train_of_order: &[u8],
     times: &[u32],
@@ -107,22 +79,13 @@ fn plan_lines(
     out: &mut [u8],
     writing: bool,
 ) -> Place
-    requires { ⌜ NamesLie (now text) count (now start) (now long) ⌝ }
-    ensures { λ r. ⌜ state r (now (out .exit)) ≡
-        pass writing (plan-named (name-by (now (text .entry)) count (now (start .entry)) (now (long .entry))) (now (pairs .entry)) (now («train_of_order» .entry)) (now (times .entry)) rounds)
+    requires { ⌜ NamesLie (now text) names ⌝ }
+    ensures { λ r. ⌜ state r (now (out .exit)) ≡ pass writing (plan-named (name-by (now (text .entry)) names)
+        (now (pairs .entry)) (now («train_of_order» .entry)) (now (times .entry)) rounds)
         (state (Place.At 0) (now (out .entry))) ⌝ }
 {
     let behind_pairs = lines::pair_lines(out, Place::At(0), writing, pairs);
     let behind_times = lines::time_lines(out, behind_pairs, writing, times);
-    let behind_orders = lines::order_lines(
-        out,
-        behind_times,
-        writing,
-        text,
-        count,
-        start,
-        long,
-        train_of_order,
-    );
+    let behind_orders = lines::order_lines(out, behind_times, writing, text, names, train_of_order);
     lines::rounds_line(out, behind_orders, writing, rounds)
 }

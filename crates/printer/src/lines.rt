@@ -5,11 +5,14 @@ use crate::fields::number_field;
 use crate::fields::put;
 use crate::fields::signed_field;
 use model::Refusal;
+use sheet::NamePlaces;
+use sheet::names::name_part;
 ghost use mathlib.Core.Path.{_≡_};
 ghost use Prim.Native.Nat.{_/_};
 ghost use lib.ListN.{length};
+ghost use Rattle.sheet.specs.OrderNames.{NamesLie};
 ghost use Rattle.printer.specs.Lines.{pair-line, time-line, order-line, rounds-line, refusal-line, pair-lines, time-lines, order-lines};
-ghost use Rattle.printer.specs.Names.{name-by, NamesLie};
+ghost use Rattle.printer.specs.Names.{name-by};
 ghost use Rattle.printer.specs.Writing.{state, pass};
 
 fn pair_line(out: &mut [u8], place: Place, writing: bool, last: i64, worst: i64) -> Place
@@ -23,7 +26,8 @@ fn pair_line(out: &mut [u8], place: Place, writing: bool, last: i64, worst: i64)
 
 // The P lines.
 pub fn pair_lines(out: &mut [u8], place: Place, writing: bool, pairs: &[i64]) -> Place
-    ensures { λ r. ⌜ state r (now (out .exit)) ≡ pass writing (pair-lines (now (pairs .entry)) (length (now (pairs .entry)) / 2)) (state place (now (out .entry))) ⌝ }
+    ensures { λ r. ⌜ state r (now (out .exit)) ≡
+        pass writing (pair-lines (now (pairs .entry)) (length (now (pairs .entry)) / 2)) (state place (now (out .entry))) ⌝ }
 {
     let count = pairs.len() / 2;
     let mut behind = place;
@@ -56,7 +60,8 @@ fn time_line(
 
 // The D lines.
 pub fn time_lines(out: &mut [u8], place: Place, writing: bool, times: &[u32]) -> Place
-    ensures { λ r. ⌜ state r (now (out .exit)) ≡ pass writing (time-lines (now (times .entry)) (length (now (times .entry)) / 2)) (state place (now (out .entry))) ⌝ }
+    ensures { λ r. ⌜ state r (now (out .exit)) ≡
+        pass writing (time-lines (now (times .entry)) (length (now (times .entry)) / 2)) (state place (now (out .entry))) ⌝ }
 {
     let count = times.len() / 2;
     let mut behind = place;
@@ -80,49 +85,25 @@ fn order_line(out: &mut [u8], place: Place, writing: bool, name: &[u8], train: u
     put(out, second, writing, 10)
 }
 
-// The name of an order, as that part of the text; the empty part if there is no such order.
-fn name_at<'a, 'b, 'c>(
-    text: &'a [u8],
-    count: usize,
-    start: &'b [usize],
-    long: &'c [usize],
-    order: usize,
-) -> &'a [u8]
-    requires { ⌜ NamesLie (now text) count (now start) (now long) ⌝ }
-    ensures { λ r. ⌜ r .now ≡ name-by (now (text .entry)) count (now (start .entry)) (now (long .entry)) order ⌝ }
-{
-    if order < 1 {
-        return &text[0..0];
-    }
-    if count < order {
-        return &text[0..0];
-    }
-    let place = order - 1;
-    let first = start[place];
-    let end = first + long[place];
-    &text[first..end]
-}
-
 // The L lines.
 pub fn order_lines(
     out: &mut [u8],
     place: Place,
     writing: bool,
     text: &[u8],
-    count: usize,
-    start: &[usize],
-    long: &[usize],
+    names: NamePlaces,
     trains: &[u8],
 ) -> Place
-    requires { ⌜ NamesLie (now text) count (now start) (now long) ⌝ }
+    requires { ⌜ NamesLie (now text) names ⌝ }
     ensures { λ r. ⌜ state r (now (out .exit)) ≡
-        pass writing (order-lines (name-by (now (text .entry)) count (now (start .entry)) (now (long .entry))) (now (trains .entry)) (length (now (trains .entry)))) (state place (now (out .entry))) ⌝ }
+        pass writing (order-lines (name-by (now (text .entry)) names) (now (trains .entry)) (length (now (trains .entry))))
+        (state place (now (out .entry))) ⌝ }
 {
     let mut behind = place;
     let mut i: usize = 0;
     while i < trains.len() {
         let order = i + 1;
-        let name = name_at(text, count, start, long, order);
+        let name = name_part(text, names, order);
         behind = order_line(out, behind, writing, name, trains[i]);
         i = order;
     }

@@ -1,32 +1,40 @@
 -- What the answer to an admitted sheet says. Assumes nothing.
-use mathlib.Core.Path.{_≡_, refl, sym, subst}
+use mathlib.Core.Path.{_≡_, refl, sym, ap, subst}
+use mathlib.Core.Logic.{_↔_}
 use mathlib.Core.List.{List, [], _∷_, _++_}
-use Prim.Native.Nat.{ℕ, _-_, _≤_}
+use Prim.Native.Nat.{ℕ, _-_, _*_, _≤_}
 use native.Mathlib.Omega.{arith}
+use native.Mathlib.Nat.{mul-le-mul}
 use lib.IntN.{ℤ}
 use lib.ListN.{length}
 use lib.Signed.{_<ℤ_}
 use Rattle.numbers.specs.SignedLaws.{≮ℤ-≤ℤ}
+use Rattle.numbers.specs.OneMoreLaws.{All, Some, more-length, more-last, all-new}
 use Rattle.model.specs.Sheet.{Sheet}
 use Rattle.model.specs.Schedule.{Schedule}
 use Rattle.model.specs.Lateness.{Pair, pairOf, pair-at}
 use Rattle.model.specs.Admission.{Admitted}
 use Rattle.model.specs.declared.Refusal.the-variants.{NoSchedule, RoundLimit}
-use Rattle.rounds.specs.Recording.{Plan, Recorded, nothing, recorded, listed}
-use Rattle.rounds.specs.Rounds.{Search, ended, Answer, refused, planned, answer, plan, search}
+use Rattle.rounds.specs.Timing.{Timed, stopped, timed}
+use Rattle.rounds.specs.Recording.{Plan, Entry, listed, no-pair, no-entry, last-plan}
+use Rattle.rounds.specs.RecordingLaws.{listed-behind, listed-length, listed-at, last-plan-behind}
+use Rattle.rounds.specs.EntryPlan.{EntryPlan}
+use Rattle.rounds.specs.Rounds.{Search, ended, above-everything, start, first-train, first-timing, depart, round, rounds, search}
+use Rattle.rounds.specs.Rounds.{Answer, refused, planned, answer, plan}
 use Rattle.rounds.specs.RoundsBound.{rounds-bound}
-use Rattle.rounds.specs.PairListLaws.{All, Some, Rising, more-length, more-last, all-more, rising-more}
-use Rattle.rounds.specs.ScheduleLaws.{below-first-limit}
-use Rattle.rounds.specs.RecordLaws.{Plans, Belongs, Matches, Held, Recording, nothing-yet, held}
-use Rattle.rounds.specs.InvariantLaws.{Over, at-end, search-over}
+use Rattle.rounds.specs.PairListLaws.{Rising, rising-more}
+use Rattle.rounds.specs.ScheduleLaws.{below-everything}
+use Rattle.rounds.specs.FrontSoFarLaws.{Belongs, Matches, FrontSoFar, Recorded, nothing-yet, so-far}
+use Rattle.rounds.specs.InvariantLaws.{Over, at-end, search-over, at-start, next-schedule}
+use Rattle.rounds.specs.RoundsLaws.{answer-planned, plan-at-end}
 
 -- the parts of an answer with pairs
 pub record Listing (s : Sheet) (pairs : List Pair) (x : Plan) (c : ℕ) : Type 0 where
-  pub belong : All (Belongs s) pairs
-  pub cover : (train departure : List ℕ) → Schedule s train departure → Some (Matches s train departure) pairs
+  pub belong : All no-pair (Belongs s) pairs
+  pub cover : (train departure : List ℕ) → Schedule s train departure → Some no-pair (Matches s train departure) pairs
   pub rise : Rising pairs
   pub not-empty : 1 ≤ length pairs
-  pub last-plan : Plans s (pair-at pairs (length pairs - 1)) x
+  pub last-plan : EntryPlan s (record { pair = pair-at pairs (length pairs - 1); plan = x })
   pub few-rounds : c ≤ rounds-bound s
   pub few-pairs : length pairs ≤ rounds-bound s
 
@@ -36,33 +44,41 @@ pub data Answered (s : Sheet) : Answer → Type 0 where
   listing : {pairs : List Pair} {x : Plan} {c : ℕ} → Listing s pairs x c → Answered s (planned pairs x c)
 
 module _ (s : Sheet) where
-  listing-is : (before : List Pair) (p : Pair) (x : Plan) (c : ℕ) → Held s before p x
-      → ((train departure : List ℕ) → Schedule s train departure → ¬ (pairOf s train departure .worst <ℤ p .worst))
-      → c ≤ rounds-bound s → length (before ++ (p ∷ [])) ≤ c → Listing s (before ++ (p ∷ [])) x c
-  listing-is before p x c h none-below few-rounds few-listed =
+  -- an entry's pair belongs to its plan
+  belongs-to : (e : Entry) → EntryPlan s e → Belongs s (e .pair)
+  belongs-to e h = (e .plan .train, e .plan .departure, h .schedule, h .pair)
+
+  listing-is : (before : List Entry) (e : Entry) (c : ℕ) → FrontSoFar s (listed before) (e .pair) → All no-entry (EntryPlan s) (before ++ (e ∷ []))
+      → ((train departure : List ℕ) → Schedule s train departure → ¬ (pairOf s train departure .worst <ℤ e .pair .worst))
+      → c ≤ rounds-bound s → length (before ++ (e ∷ [])) ≤ c → Listing s (listed (before ++ (e ∷ []))) (last-plan (before ++ (e ∷ []))) c
+  listing-is before e c h plans none-below few-rounds few =
+      let pairs = listed-behind before e in
+      let many = listed-length (before ++ (e ∷ [])) in
       record {
-        belong = all-more before p (Belongs s) (h .belongs) (x .train, x .departure, h .plans .schedule, h .plans .pair);
-        cover = λ train departure l. h .covers train departure l (≮ℤ-≤ℤ (none-below train departure l));
-        rise = rising-more before p (h .rising) (h .beyond);
-        not-empty = omega (arith, more-length before p);
-        last-plan = subst (λ (p′ : Pair). Plans s p′ x) (sym (more-last before p)) (h .plans);
+        belong = λ k l. rw (listed-at (before ++ (e ∷ [])) k) (belongs-to _ (plans k (omega arith)));
+        cover = λ train departure l. rw pairs (h .covers train departure l (≮ℤ-≤ℤ (none-below train departure l)));
+        rise = rw pairs (rising-more (listed before) (e .pair) (h .rising) (h .beyond));
+        not-empty = omega (arith, more-length no-entry before e);
+        last-plan = rw (pairs, more-last no-pair (listed before) (e .pair), last-plan-behind before e) (all-new no-entry before e (EntryPlan s) plans);
         few-rounds = few-rounds;
         few-pairs = omega arith;
       }
 
   module _ (a : Admitted s) where
     answer-is : (x : Search) → Over s x → Answered s (answer x)
-    unfolding answer listed
-    answer-is x (at-end {c = c} {found = found} h) = go found (h .recorded-is) (h .few-listed)
+    unfolding answer
+    answer-is x (at-end {c = c} {recorded = recorded} h) = go recorded (h .on-record .front) (h .on-record .plans) (h .on-record .few)
       where
-        go : (found : Recorded) → Recording s (h .limit) found → length (listed found) ≤ c → Answered s (answer (ended c found))
-        go nothing (nothing-yet e) few =
+        go : (recorded : List Entry) → Recorded s (h .limit) recorded → All no-entry (EntryPlan s) recorded → length recorded ≤ c
+            → Answered s (answer (ended c recorded))
+        go recorded (nothing-yet e) plans few =
             no-schedule (λ train departure l. h .none-below train departure l
-            (subst (λ (y : ℤ). pairOf s train departure .worst <ℤ y) (sym e) (below-first-limit s a train departure l)))
-        go (recorded before p x) (held e H) few =
-            listing
-            (listing-is before p x c H (λ train departure l w. h .none-below train departure l (subst (λ (y : ℤ). pairOf s train departure .worst <ℤ y) (sym e) w))
-            (h .bounded) few)
+            (subst (λ (y : ℤ). pairOf s train departure .worst <ℤ y) (sym e) (below-everything s a train departure l)))
+        go recorded (so-far before e u H) plans few =
+            rw (answer-planned c (before ++ (e ∷ [])) (omega (arith, more-length no-entry before e)))
+            (listing
+            (listing-is before e c H plans
+            (λ train departure l w. h .none-below train departure l (subst (λ (y : ℤ). pairOf s train departure .worst <ℤ y) (sym u) w)) (h .bounded) few))
 
     pub answered : Answered s (plan s)
     unfolding plan
@@ -96,8 +112,25 @@ module _ (s : Sheet) where
         go x (no-schedule f) e = let z : _≡_ {A = ℕ} 0 1 = cc in omega arith
         go x (listing l) e = let z : _≡_ {A = ℕ} 0 1 = cc in omega arith
 
-    pub ends-within : (c : ℕ) × (found : Recorded) × (search s ≡ ended c found) × (c ≤ rounds-bound s)
+    pub ends-within : (c : ℕ) × (recorded : List Entry) × (search s ≡ ended c recorded) × (c ≤ rounds-bound s)
     ends-within = go (search s) (search-over s a)
       where
-        go : (x : Search) → Over s x → (c : ℕ) × (found : Recorded) × (x ≡ ended c found) × (c ≤ rounds-bound s)
-        go x (at-end {c = c} {found = found} h) = (c, found, refl, h .bounded)
+        go : (x : Search) → Over s x → (c : ℕ) × (recorded : List Entry) × (x ≡ ended c recorded) × (c ≤ rounds-bound s)
+        go x (at-end {c = c} {recorded = recorded} h) = (c, recorded, refl, h .bounded)
+
+    -- ---- round 1
+
+    -- 8 IS GIVEN EXACTLY WHEN STEP 2 STOPS ROUND 1
+    pub eight-stops : plan s ≡ refused NoSchedule ↔ (first-timing s ≡ stopped)
+    unfolding rounds round start depart answer
+    eight-stops = (λ e. go e (first-timing s) refl, λ e. plan-at-end s 1 1 [] one-round (first-stops e))
+      where
+        go : plan s ≡ refused NoSchedule → (t : Timed) → first-timing s ≡ t → t ≡ stopped
+        go e stopped u = refl
+        go e (timed S F) u = absurd (eight-means e (first-train s) S (next-schedule s a 0 0 _ above-everything [] (at-start s a) S F u))
+
+        first-stops : first-timing s ≡ stopped → rounds s 1 (start s) ≡ ended 1 []
+        first-stops e = ap (depart s 1 _ above-everything [] (first-train s)) e
+
+        one-round : 1 ≤ s .orders * s .trains
+        one-round = omega (arith, mul-le-mul (a .complete .orders) (a .complete .trains))

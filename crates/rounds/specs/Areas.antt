@@ -1,14 +1,18 @@
 -- DOCUMENT 01, "LENT MEMORY": WHAT A PLANNING CALL ANSWERS, AND WHAT EACH LENT AREA THEN HOLDS.
 use mathlib.Core.Bool.{Bool, _&&_, cond}
 use mathlib.Core.List.{List, [], _∷_, _++_}
-use Prim.Native.Nat.{ℕ, zero, suc, _*_}
+use Prim.Native.Nat.{ℕ, zero, suc, _*_, _≤_}
 use lib.Dec.{leb}
 use lib.IntN.{ℤ, pos}
-use lib.ListN.{length, drop}
+use lib.ListN.{length}
 use Rattle.numbers.specs.Counting.{nth}
+use Rattle.numbers.specs.Over.{over}
 use Rattle.model.specs.Sheet.{Sheet}
+use Rattle.model.specs.Limits.{numbers-a-pair, numbers-a-train}
 use Rattle.model.specs.Lateness.{Pair}
-use Rattle.model.specs.Admission.{Admission, admitted, not-admitted, admission}
+use Rattle.model.specs.Admission.{admission}
+use Rattle.model.specs.declared.Admission.{Admission}
+use Rattle.model.specs.declared.Admission.the-variants as tests
 use Rattle.model.specs.declared.Refusal.the-variants.{AreaTooShort}
 use Rattle.model.specs.declared.Reply.{Reply}
 use Rattle.model.specs.declared.Reply.the-variants.{Planned, Refused}
@@ -23,16 +27,27 @@ pub record Areas : Type 0 where
 
 -- ---- the answer
 
--- test 10: "pairs (at least n × q), train of order (at least n), times of train (at least q)"
+-- test 10: "pairs (at least n × q), train of order (at least n), times of train (at least q)", as a proposition and as a test
+abbrev pub pairs-needed : Sheet → ℕ
+pairs-needed s = numbers-a-pair * (s .orders * s .trains)
+
+abbrev pub times-needed : Sheet → ℕ
+times-needed s = numbers-a-train * s .trains
+
+pub record LongEnough (s : Sheet) (lent : Areas) : Type 0 where
+  pub pairs : pairs-needed s ≤ length (lent .pairs)
+  pub trains : s .orders ≤ length (lent .trains)
+  pub times : times-needed s ≤ length (lent .times)
+
 abbrev pub long-enough : Sheet → Areas → Bool
 long-enough s lent =
-    leb (2 * (s .orders * s .trains)) (length (lent .pairs)) && leb (s .orders) (length (lent .trains)) && leb (2 * s .trains) (length (lent .times))
+    leb (pairs-needed s) (length (lent .pairs)) && leb (s .orders) (length (lent .trains)) && leb (times-needed s) (length (lent .times))
 
 -- "4, 5, 2, 6, 7, 10, then 8 or 9"
 unfoldable pub answer-after : Sheet → Areas → Admission → Answer
 unfolding plan
-answer-after s lent (not-admitted r) = refused r
-answer-after s lent admitted = cond (long-enough s lent) (plan s) (refused AreaTooShort)
+answer-after s lent (tests.Refused r) = refused r
+answer-after s lent tests.Granted = cond (long-enough s lent) (plan s) (refused AreaTooShort)
 
 unfoldable pub answer-to : Sheet → Areas → Answer
 unfolding answer-after admission
@@ -44,10 +59,6 @@ reply (refused r) = Refused r
 reply (planned pairs plan rounds) = Planned (length pairs) rounds
 
 -- ---- the areas
-
--- "It writes the front of each .. and leaves the rest as found."
-abbrev pub over : {A : Type 0} → (front found : List A) → List A
-over front found = front ++ drop (length front) found
 
 unfoldable pub pair-numbers : List Pair → List ℤ
 pair-numbers [] = []

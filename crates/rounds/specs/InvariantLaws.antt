@@ -1,7 +1,7 @@
 -- The invariant holds after any number of rounds, so the search ends within the bound. Assumes nothing.
 use mathlib.Core.Path.{_≡_, refl, subst}
 use mathlib.Core.Logic.{_⊎_, inl, inr}
-use mathlib.Core.List.{List}
+use mathlib.Core.List.{List, []}
 use Prim.Native.Nat.{ℕ, zero, suc, _+_, _*_, _≤_, _<_}
 use native.Mathlib.Omega.{arith}
 use native.Mathlib.Nat.{zero-add, suc-add, add-suc, add-zero}
@@ -10,28 +10,29 @@ use lib.IntN.{ℤ}
 use lib.ListN.{replicate, getD-replicate}
 use Rattle.numbers.specs.Counting.{at, nth, count}
 use Rattle.numbers.specs.Decides.{decides-le, decides-lt, decided}
+use Rattle.numbers.specs.OneMoreLaws.{All}
 use Rattle.numbers.specs.CountingLaws.{count-none, count-all}
 use Rattle.model.specs.Sheet.{Sheet, places}
 use Rattle.model.specs.Schedule.{Schedule, Departures}
 use Rattle.model.specs.Arrival.{arrival}
 use Rattle.model.specs.Admission.{Admitted}
-use Rattle.rounds.specs.Timing.{ready, timed}
-use Rattle.rounds.specs.Recording.{Recorded, nothing, listed}
-use Rattle.rounds.specs.Rounds.{Search, going, ended, above-everything, start, loading, times, round, rounds, search}
+use Rattle.rounds.specs.Timing.{ready, Timed, timed}
+use Rattle.rounds.specs.Recording.{Entry, no-entry}
+use Rattle.rounds.specs.EntryPlan.{EntryPlan}
+use Rattle.rounds.specs.Rounds.{Search, going, ended, above-everything, recorded-in, start, loading, times, round, rounds, search}
 use Rattle.rounds.specs.RoundsBound.{rounds-bound}
 use Rattle.rounds.specs.SumLaws.{sum-same, within-limit}
 use Rattle.rounds.specs.TimingRuleLaws.{Outcome, least-run}
 use Rattle.rounds.specs.ScheduleLaws.{rule}
-use Rattle.rounds.specs.RecordLaws.{nothing-yet}
-use Rattle.rounds.specs.OneRoundLaws.{Keeps, Going, Ended, Invariant, still, over, covered, bounded-now, round-keeps}
+use Rattle.rounds.specs.FrontSoFarLaws.{nothing-yet}
+use Rattle.rounds.specs.OneRoundLaws.{Keeps, Going, Ended, Invariant, still, finished, covered, bounded-now, schedule, round-keeps}
 
 -- the search has ended
 pub data Over (s : Sheet) : Search → Type 0 where
-  at-end : {c : ℕ} {found : Recorded} → Ended s c found → Over s (ended c found)
+  at-end : {c : ℕ} {recorded : List Entry} → Ended s c recorded → Over s (ended c recorded)
 
 module _ (s : Sheet) (a : Admitted s) where
-  at-start : Going s 0 0 (replicate (s .orders) (s .trains)) above-everything nothing
-  unfolding listed
+  pub at-start : Going s 0 0 (replicate (s .orders) (s .trains)) above-everything []
   at-start =
       record {
         counted = refl;
@@ -39,8 +40,7 @@ module _ (s : Sheet) (a : Admitted s) where
         upto = λ j l. omega (arith, all-last j l);
         fits = λ i l. fits i l (decided (decides-lt i (s .trains)));
         keeps = λ train departure h w j l. omega (arith, all-last j l, h .on-a-train j l .1);
-        recorded-is = nothing-yet refl;
-        few-listed = omega arith;
+        on-record = record { front = nothing-yet refl; plans = λ k l. absurd (omega arith); few = omega arith };
       }
     where
       latest : List ℕ
@@ -61,8 +61,8 @@ module _ (s : Sheet) (a : Admitted s) where
 
   one-round : (k : ℕ) (x : Search) → Invariant s k x → Invariant s (suc k) (round s x)
   unfolding round
-  one-round k (going c latest y found) (still g) = round-keeps s a k c latest y found g
-  one-round k (ended c found) (over h) = over h
+  one-round k (going c latest y recorded) (still g) = round-keeps s a k c latest y recorded g
+  one-round k (ended c recorded) (finished h) = finished h
 
   more-rounds : (m k : ℕ) (x : Search) → Invariant s k x → Invariant s (m + k) (rounds s m x)
   unfolding rounds
@@ -73,31 +73,48 @@ module _ (s : Sheet) (a : Admitted s) where
   after : (k : ℕ) → Invariant s k (rounds s k (start s))
   after k = simp add-zero at (more-rounds k 0 (start s) start-is)
 
+  -- OF EACH RECORDED ENTRY, AT ANY TIME, THE PLAN IS A SCHEDULE WHOSE PAIR IT IS
+  pub entry-plans : (k : ℕ) → All no-entry (EntryPlan s) (recorded-in (rounds s k (start s)))
+  entry-plans k = go (rounds s k (start s)) (after k)
+    where
+      go : (x : Search) → Invariant s k x → All no-entry (EntryPlan s) (recorded-in x)
+      go x (still g) = g .on-record .plans
+      go x (finished h) = h .on-record .plans
+
   -- ---- a search that goes on
 
   -- what holds of it
-  pub reached : (k c : ℕ) (latest : List ℕ) (y : ℤ) (found : Recorded) → rounds s k (start s) ≡ going c latest y found → Going s k c latest y found
-  reached k c latest y found e = go (subst (Invariant s k) e (after k))
+  pub reached : (k c : ℕ) (latest : List ℕ) (y : ℤ) (recorded : List Entry) → rounds s k (start s) ≡ going c latest y recorded → Going s k c latest y recorded
+  reached k c latest y recorded e = go (subst (Invariant s k) e (after k))
     where
-      go : Invariant s k (going c latest y found) → Going s k c latest y found
+      go : Invariant s k (going c latest y recorded) → Going s k c latest y recorded
       go (still g) = g
 
-  -- its next plan departs and arrives, train by train, no later than any schedule that keeps to its latest trains
-  pub earliest-plan : (k c : ℕ) (latest : List ℕ) (y : ℤ) (found : Recorded) → Going s k c latest y found
-      → (S F : List ℕ) → times s (loading s latest) ≡ timed S F
-      → (train departure : List ℕ) → Schedule s train departure → Keeps s latest train
-      → (i : ℕ) → 1 ≤ i → i ≤ s .trains → (nth S i ≤ nth departure i) × (nth F i ≤ arrival (s .form) (nth departure) i)
-  earliest-plan k c latest y found g S F e train departure h keeps =
-      go S F (subst (Outcome (s .trains) (Departures (s .form) (s .trains)) (arrival (s .form)) released) e (rule s a .outcome released))
-    where
-      released : ℕ → ℕ
-      released = ready (s .release) (loading s latest) (s .orders)
+  module _ (k c : ℕ) (latest : List ℕ) (y : ℤ) (recorded : List Entry) (g : Going s k c latest y recorded)
+      (S F : List ℕ) (e : times s (loading s latest) ≡ timed S F) where
+    abbrev Run : Timed → Type 0
+    Run = Outcome (s .trains) (Departures (s .paths) (s .trains)) (arrival (s .paths)) (ready (s .release) (loading s latest) (s .orders))
 
-      go : (S F : List ℕ) → Outcome (s .trains) (Departures (s .form) (s .trains)) (arrival (s .form)) released (timed S F)
-          → (i : ℕ) → 1 ≤ i → i ≤ s .trains → (nth S i ≤ nth departure i) × (nth F i ≤ arrival (s .form) (nth departure) i)
-      go S F (least-run size-S size-F arrives ok cov least) i p l =
-          let (d, f) = least (nth departure) (h .departures) (covered s a k c latest y found g train departure h keeps) i p l in
-          (d, omega (arith, arrives i p l))
+    run : Run (timed S F)
+    run = subst Run e (rule s a .outcome _)
+
+    -- its next plan is a schedule
+    pub next-schedule : Schedule s (loading s latest) S
+    next-schedule = go run
+      where
+        go : Run (timed S F) → Schedule s (loading s latest) S
+        go (least-run size-S size-F arrives ok cov least) = schedule s a k c latest y recorded g S F size-S size-F arrives ok cov least
+
+    -- that departs and arrives, train by train, no later than any schedule that keeps to its latest trains
+    pub earliest-plan : (train departure : List ℕ) → Schedule s train departure → Keeps s latest train
+        → (i : ℕ) → 1 ≤ i → i ≤ s .trains → (nth S i ≤ nth departure i) × (nth F i ≤ arrival (s .paths) (nth departure) i)
+    earliest-plan train departure h keeps = go run
+      where
+        go : Run (timed S F)
+            → (i : ℕ) → 1 ≤ i → i ≤ s .trains → (nth S i ≤ nth departure i) × (nth F i ≤ arrival (s .paths) (nth departure) i)
+        go (least-run size-S size-F arrives ok cov least) i p l =
+            let (d, f) = least (nth departure) (h .departures) (covered s a k c latest y recorded g train departure h keeps) i p l in
+            (d, omega (arith, arrives i p l))
 
   -- ---- the end
 
@@ -106,8 +123,8 @@ module _ (s : Sheet) (a : Admitted s) where
   over-by k l = go (rounds s k (start s)) (after k)
     where
       go : (x : Search) → Invariant s k x → Over s x
-      go (going c latest y found) (still g) = absurd (omega (arith, g .counted, bounded-now s a k c latest y found g))
-      go (ended c found) (over h) = at-end h
+      go (going c latest y recorded) (still g) = absurd (omega (arith, g .counted, bounded-now s a k c latest y recorded g))
+      go (ended c recorded) (finished h) = at-end h
 
   pub search-over : Over s (search s)
   unfolding search

@@ -12,17 +12,20 @@ use lib.ListN.{length}
 use lib.Signed.{ltZ, _≤ℤ_, _<ℤ_, ≤ℤ-refl, <ℤ-≤ℤ-trans, clashℤ}
 use Rattle.numbers.specs.Counting.{at, nth, count, sum}
 use Rattle.numbers.specs.Decides.{Decides, decides-le, decides-ltℤ, decided, numbered}
+use Rattle.numbers.specs.OneMoreLaws.{All}
 use Rattle.numbers.specs.SignedLaws.{≤ℤ-trans, <ℤ-weaken, ≮ℤ-≤ℤ, ≤ℤ-<ℤ-trans}
 use Rattle.model.specs.Sheet.{Sheet, places}
 use Rattle.model.specs.Schedule.{Schedule, Departures}
 use Rattle.model.specs.Arrival.{arrival}
-use Rattle.model.specs.Lateness.{Pair, pairOf, lateness, worst}
+use Rattle.model.specs.Lateness.{pairOf, lateness, worst}
 use Rattle.model.specs.LatenessLaws.{lateness-rises, worst-above, worst-one}
 use Rattle.model.specs.Admission.{Admitted}
 use Rattle.rounds.specs.LoadingLaws.{on}
 use Rattle.rounds.specs.Timing.{ready, Timed}
 use Rattle.rounds.specs.TimingLaws.{ready-above, ready-least, Covers}
-use Rattle.rounds.specs.Recording.{Plan, Recorded, listed, record-pair}
+use Rattle.rounds.specs.Recording.{Plan, Entry, record-entry, no-entry}
+use Rattle.rounds.specs.RecordingLaws.{record-all, record-lengthens}
+use Rattle.rounds.specs.EntryPlan.{EntryPlan}
 use Rattle.rounds.specs.Lowering.{lower, crowded}
 use Rattle.rounds.specs.LoweringLaws.{GreatestEarly, latest-below-is, lower-at, Crowded, decides-crowded}
 use Rattle.rounds.specs.Rounds.{Search, going, ended, loading, times, settle, grade, depart, round}
@@ -32,39 +35,43 @@ use Rattle.rounds.specs.GreedyLaws.{Greedy, uncrowded, filled, released-
 use Rattle.rounds.specs.LoadLaws.{load-length, load-greedy}
 use Rattle.rounds.specs.TimingRuleLaws.{NoLater, Outcome, none-covers, least-run}
 use Rattle.rounds.specs.ScheduleLaws.{worst-same, rule, rides}
-use Rattle.rounds.specs.RecordLaws.{Plans, Recording, recording, listed-more}
+use Rattle.rounds.specs.FrontSoFarLaws.{Recorded, recording}
 
 module _ (s : Sheet) where
   -- every order of this loading rides no later than its latest train
   abbrev pub Keeps : (latest train : List ℕ) → Type 0
   Keeps latest train = (j : ℕ) → j < s .orders → at train j ≤ at latest j
 
+  -- what is recorded where the limit is y: the front so far, each entry with its plan, and no more entries than rounds
+  pub record OnRecord (y : ℤ) (recorded : List Entry) (c : ℕ) : Type 0 where
+    pub front : Recorded s y recorded
+    pub plans : All no-entry (EntryPlan s) recorded
+    pub few : length recorded ≤ c
+
   -- the search goes on after k rounds
-  pub record Going (k c : ℕ) (latest : List ℕ) (y : ℤ) (found : Recorded) : Type 0 where
+  pub record Going (k c : ℕ) (latest : List ℕ) (y : ℤ) (recorded : List Entry) : Type 0 where
     pub counted : c ≡ k
     -- each round has lowered the sum of the latest trains
     pub shrunk : c + sum (at latest) (s .orders) ≤ s .orders * s .trains
     pub upto : (j : ℕ) → j < s .orders → at latest j ≤ s .trains
-    -- step 5 found no crowd
+    -- step 5 sees no crowd
     pub fits : (i : ℕ) → i ≤ s .trains → count (λ j. leb (at latest j) i) (s .orders) ≤ places (s .capacity) i
     -- a schedule below the limit keeps to the latest trains
     pub keeps : (train departure : List ℕ) → Schedule s train departure → pairOf s train departure .worst <ℤ y → Keeps latest train
-    pub recorded-is : Recording s y found
-    pub few-listed : length (listed found) ≤ c
+    pub on-record : OnRecord y recorded c
 
   -- the search has ended: no schedule is below the limit it ended at
-  pub record Ended (c : ℕ) (found : Recorded) : Type 0 where
+  pub record Ended (c : ℕ) (recorded : List Entry) : Type 0 where
     pub limit : ℤ
     pub bounded : c ≤ rounds-bound s
     pub none-below : (train departure : List ℕ) → Schedule s train departure → ¬ (pairOf s train departure .worst <ℤ limit)
-    pub recorded-is : Recording s limit found
-    pub few-listed : length (listed found) ≤ c
+    pub on-record : OnRecord limit recorded c
 
   pub data Invariant (k : ℕ) : Search → Type 0 where
-    still : {c : ℕ} {latest : List ℕ} {y : ℤ} {found : Recorded} → Going k c latest y found → Invariant k (going c latest y found)
-    over : {c : ℕ} {found : Recorded} → Ended c found → Invariant k (ended c found)
+    still : {c : ℕ} {latest : List ℕ} {y : ℤ} {recorded : List Entry} → Going k c latest y recorded → Invariant k (going c latest y recorded)
+    finished : {c : ℕ} {recorded : List Entry} → Ended c recorded → Invariant k (ended c recorded)
 
-module _ (s : Sheet) (a : Admitted s) (k c : ℕ) (latest : List ℕ) (y : ℤ) (found : Recorded) (g : Going s k c latest y found) where
+module _ (s : Sheet) (a : Admitted s) (k c : ℕ) (latest : List ℕ) (y : ℤ) (recorded : List Entry) (g : Going s k c latest y recorded) where
   abbrev n : ℕ
   n = s .orders
 
@@ -88,44 +95,51 @@ module _ (s : Sheet) (a : Admitted s) (k c : ℕ) (latest : List ℕ) (y : ℤ) 
   within : (j : ℕ) → j < n → at train j ≤ q
   within j l = omega (arith, greedy .keeps j l, g .upto j l)
 
+  -- the loading puts every order on a train
+  pub every-order-loaded : (j : ℕ) → j < n → (1 ≤ at train j) × (at train j ≤ q)
+  every-order-loaded j l = (all-loaded j l, within j l)
+
   -- any schedule that keeps to the latest trains departs after the releases of this loading
   pub covered : (other departure : List ℕ) → Schedule s other departure → Keeps s latest other → Covers q released (nth departure)
   covered other departure h keeps i p l =
       ready-least (s .release) train i (nth departure i) n
       (λ j lj e. subst (λ (m : ℕ). s .release j ≤ nth departure m) e
-      (released-in-any n q (s .capacity) (s .release) latest train greedy (g .upto) other (nth departure) (rides s a other departure h) keeps j lj (all-loaded j lj)))
+      (released-in-any n q (s .capacity) (s .release) latest train greedy (g .upto) other (nth departure) (rides s a other departure h) keeps j lj
+      (all-loaded j lj)))
 
   -- this round is within the bound
   pub bounded-now : suc c ≤ rounds-bound s
   bounded-now = omega (arith, g .shrunk, sum-near s (a .complete .trains) (at latest) (g .upto) (g .fits))
 
+  one-round-later : OnRecord s y recorded c → OnRecord s y recorded (suc c)
+  one-round-later r = record { front = r .front; plans = r .plans; few = omega (arith, r .few) }
+
   -- "If there is none, stop."
-  stops : ((S : ℕ → ℕ) → Departures (s .form) q S → ¬ Covers q released S) → Ended s (suc c) found
+  stops : ((S : ℕ → ℕ) → Departures (s .paths) q S → ¬ Covers q released S) → Ended s (suc c) recorded
   stops f =
       record {
         limit = y;
         bounded = bounded-now;
         none-below = λ other departure h l. f (nth departure) (h .departures) (covered other departure h (g .keeps other departure h l));
-        recorded-is = g .recorded-is;
-        few-listed = omega (arith, g .few-listed);
+        on-record = one-round-later (g .on-record);
       }
 
-  -- ---- steps 3 to 5, with the times found
+  -- ---- steps 3 to 5, with the times known
 
-  module _ (S F : List ℕ) (size-S : length S ≡ q) (size-F : length F ≡ q) (arrives : (i : ℕ) → 1 ≤ i → i ≤ q → nth F i ≡ arrival (s .form) (nth S) i)
-      (ok : Departures (s .form) q (nth S)) (cov : Covers q released (nth S))
-      (least : (S′ : ℕ → ℕ) → Departures (s .form) q S′ → Covers q released S′ → NoLater q (arrival (s .form)) (nth S) S′) where
+  module _ (S F : List ℕ) (size-S : length S ≡ q) (size-F : length F ≡ q) (arrives : (i : ℕ) → 1 ≤ i → i ≤ q → nth F i ≡ arrival (s .paths) (nth S) i)
+      (ok : Departures (s .paths) q (nth S)) (cov : Covers q released (nth S))
+      (least : (S′ : ℕ → ℕ) → Departures (s .paths) q S′ → Covers q released S′ → NoLater q (arrival (s .paths)) (nth S) S′) where
     abbrev z : ℤ
     z = worst s train (nth F)
-
-    abbrev pair : Pair
-    pair = record { last = nth F q; worst = z }
 
     abbrev plan : Plan
     plan = record { train = train; departure = S; arrival = F }
 
+    abbrev entry : Entry
+    entry = record { pair = record { last = nth F q; worst = z }; plan = plan }
+
     -- this round's plan is a schedule, and its pair is what step 3 records
-    schedule : Schedule s train S
+    pub schedule : Schedule s train S
     schedule =
         record {
           placed = load-length n q (s .release) (s .capacity) latest;
@@ -136,24 +150,24 @@ module _ (s : Sheet) (a : Admitted s) (k c : ℕ) (latest : List ℕ) (y : ℤ) 
           departures = ok;
         }
 
-    pair-is : pairOf s train S ≡ pair
+    pair-is : pairOf s train S ≡ entry .pair
     pair-is =
-        let last-is : arrival (s .form) (nth S) q ≡ nth F q = sym (arrives q (a .complete .trains) (omega arith)) in
-        let worst-is : worst s train (arrival (s .form) (nth S)) ≡ z =
-        worst-same s (a .complete .orders) train (arrival (s .form) (nth S)) (nth F) (λ j l. sym (arrives (at train j) (all-loaded j l) (within j l))) in
+        let last-is : arrival (s .paths) (nth S) q ≡ nth F q = sym (arrives q (a .complete .trains) (omega arith)) in
+        let worst-is : worst s train (arrival (s .paths) (nth S)) ≡ z =
+        worst-same s (a .complete .orders) train (arrival (s .paths) (nth S)) (nth F) (λ j l. sym (arrives (at train j) (all-loaded j l) (within j l))) in
         λ i. record { last = last-is i; worst = worst-is i }
 
-    plans : Plans s pair plan
-    plans = record { schedule = schedule; arrives = size-F; arrivals = arrives; pair = pair-is }
+    entry-plan : EntryPlan s entry
+    entry-plan = record { schedule = schedule; arrives = size-F; arrivals = arrives; pair = pair-is }
 
     -- no schedule below the limit arrives earlier, by any train
     sooner : (other departure : List ℕ) → Schedule s other departure → pairOf s other departure .worst <ℤ y
-        → (i : ℕ) → 1 ≤ i → i ≤ q → nth F i ≤ arrival (s .form) (nth departure) i
+        → (i : ℕ) → 1 ≤ i → i ≤ q → nth F i ≤ arrival (s .paths) (nth departure) i
     sooner other departure h l i p m =
         omega (arith, arrives i p m, least (nth departure) (h .departures) (covered other departure h (g .keeps other departure h l)) i p m)
 
     -- steps 4 and 5, at the limit v
-    module _ (v : ℤ) (v-y : v ≤ℤ y) (v-z : v ≤ℤ z) (found′ : Recorded) (recorded′ : Recording s v found′) (few′ : length (listed found′) ≤ suc c) where
+    module _ (v : ℤ) (v-y : v ≤ℤ y) (v-z : v ≤ℤ z) (recorded′ : List Entry) (on-record′ : OnRecord s v recorded′ (suc c)) where
       abbrev lowered : List ℕ
       lowered = lower n (s .weight) (s .due) (nth F) v latest
 
@@ -170,8 +184,9 @@ module _ (s : Sheet) (a : Admitted s) (k c : ℕ) (latest : List ℕ) (y : ℤ) 
           lowered-is j lj .greatest (at other j) p (g .keeps other departure h y-l j lj)
           (≤ℤ-<ℤ-trans
           (≤ℤ-trans
-          (lateness-rises (s .weight j) (s .due j) (nth F (at other j)) (arrival (s .form) (nth departure) (at other j)) (sooner other departure h y-l (at other j) p m))
-          (worst-above s other (arrival (s .form) (nth departure)) j lj))
+          (lateness-rises (s .weight j) (s .due j) (nth F (at other j)) (arrival (s .paths) (nth departure) (at other j))
+          (sooner other departure h y-l (at other j) p m))
+          (worst-above s other (arrival (s .paths) (nth departure)) j lj))
           l)
 
       -- the worst order's latest train falls below the train that it rides
@@ -190,7 +205,8 @@ module _ (s : Sheet) (a : Admitted s) (k c : ℕ) (latest : List ℕ) (y : ℤ) 
                 rule s a .arrivals-rise (nth S) ok (at train j) (at lowered j) (all-loaded j l) u m,
               ) in
               clashℤ (<ℤ-≤ℤ-trans (lowered-is j l .early p) v-z)
-              (subst (λ (x : ℤ). x ≤ℤ lateness (s .weight j) (nth F (at lowered j)) (s .due j)) e (lateness-rises (s .weight j) (s .due j) (nth F (at train j)) (nth F (at lowered j)) r))
+              (subst (λ (x : ℤ). x ≤ℤ lateness (s .weight j) (nth F (at lowered j)) (s .due j)) e
+              (lateness-rises (s .weight j) (s .due j) (nth F (at train j)) (nth F (at lowered j)) r))
           go (inr u) = omega arith
 
       -- so a round that goes on lowers the sum of latest trains
@@ -199,54 +215,63 @@ module _ (s : Sheet) (a : Admitted s) (k c : ℕ) (latest : List ℕ) (y : ℤ) 
           let (j, l, e) = worst-one s train (nth F) (a .complete .orders) in
           sum-lt (at lowered) (at latest) n j l (omega (arith, worst-lowered j l e, greedy .keeps j l)) (λ i li. lowered-is i li .not-above)
 
-      settles : Invariant s (suc k) (settle s (suc c) latest v found′ (nth F))
+      settles : Invariant s (suc k) (settle s (suc c) latest v recorded′ (nth F))
       unfolding settle
       settles = go (crowded n (s .capacity) lowered q) (decides-crowded n (s .capacity) lowered q)
         where
-          go : (b : Bool) → Decides (Crowded n (s .capacity) lowered q) b → Invariant s (suc k) (cond b (ended (suc c) found′) (going (suc c) lowered v found′))
+          go : (b : Bool) → Decides (Crowded n (s .capacity) lowered q) b
+              → Invariant s (suc k) (cond b (ended (suc c) recorded′) (going (suc c) lowered v recorded′))
           go true d =
-              over
+              finished
               record {
                 limit = v;
                 bounded = bounded-now;
                 none-below = λ other departure h l. omega (
                   arith,
                   d .sound tt .more,
-                  uncrowded n (s .capacity) other (rides s a other departure h .room) (λ j lj. h .on-a-train j lj .0) lowered (keeps′ other departure h l) (d .sound tt .train),
+                  uncrowded n (s .capacity) other (rides s a other departure h .room) (λ j lj. h .on-a-train j lj .0) lowered
+                      (keeps′ other departure h l) (d .sound tt .train),
                 );
-                recorded-is = recorded′;
-                few-listed = few′;
+                on-record = on-record′;
               }
           go false d =
-              still {c = suc c} {latest = lowered} {y = v} {found = found′}
+              still {c = suc c} {latest = lowered} {y = v} {recorded = recorded′}
               record {
                 counted = omega (arith, g .counted);
                 shrunk = omega (arith, g .shrunk, shrinks);
                 upto = λ j l. omega (arith, lowered-is j l .not-above, g .upto j l);
-                fits = λ i l. let h : ¬ (places (s .capacity) i < count (λ j. leb (at lowered j) i) n) = λ m. d .complete (record { train = i; among = l; more = m }) in omega arith;
+                fits = λ i l.
+                    let h : ¬ (places (s .capacity) i < count (λ j. leb (at lowered j) i) n) =
+                    λ m. d .complete (record { train = i; among = l; more = m }) in
+                    omega arith;
                 keeps = keeps′;
-                recorded-is = recorded′;
-                few-listed = few′;
+                on-record = on-record′;
               }
 
-    graded : Invariant s (suc k) (grade s (suc c) latest y found plan)
+    -- step 3 records it
+    records : z <ℤ y → OnRecord s z (record-entry recorded entry) (suc c)
+    records better =
+        record {
+          front = recording s a y entry (train, S, schedule, pair-is) better
+              (λ other departure h l. sooner other departure h l q (a .complete .trains) (omega arith)) recorded (g .on-record .front);
+          plans = record-all (EntryPlan s) recorded entry (g .on-record .plans) entry-plan;
+          few = omega (arith, g .on-record .few, record-lengthens recorded entry .one-more);
+        }
+
+    graded : Invariant s (suc k) (grade s (suc c) latest y recorded plan)
     unfolding grade
     graded = go (ltZ z y) (decides-ltℤ z y)
       where
         go : (b : Bool) → Decides (z <ℤ y) b
-            → Invariant s (suc k) (cond b (settle s (suc c) latest z (record-pair found pair plan) (nth F)) (settle s (suc c) latest y found (nth F)))
-        go true d =
-            let better : z <ℤ y = d .sound tt in
-            settles z (<ℤ-weaken better) (≤ℤ-refl z) (record-pair found pair plan)
-            (recording s a y pair plan plans better (λ other departure h l. sooner other departure h l q (a .complete .trains) (omega arith)) found (g .recorded-is))
-            (omega (arith, g .few-listed, listed-more found pair plan))
-        go false d = settles y (≤ℤ-refl y) (≮ℤ-≤ℤ (λ l. d .complete l)) found (g .recorded-is) (omega (arith, g .few-listed))
+            → Invariant s (suc k) (cond b (settle s (suc c) latest z (record-entry recorded entry) (nth F)) (settle s (suc c) latest y recorded (nth F)))
+        go true d = let better : z <ℤ y = d .sound tt in settles z (<ℤ-weaken better) (≤ℤ-refl z) (record-entry recorded entry) (records better)
+        go false d = settles y (≤ℤ-refl y) (≮ℤ-≤ℤ (λ l. d .complete l)) recorded (one-round-later (g .on-record))
 
   -- A ROUND KEEPS THE INVARIANT
-  pub round-keeps : Invariant s (suc k) (round s (going c latest y found))
+  pub round-keeps : Invariant s (suc k) (round s (going c latest y recorded))
   unfolding round depart
   round-keeps = go (times s train) (rule s a .outcome released)
     where
-      go : (t : Timed) → Outcome q (Departures (s .form) q) (arrival (s .form)) released t → Invariant s (suc k) (depart s (suc c) latest y found train t)
-      go t (none-covers f) = over (stops f)
+      go : (t : Timed) → Outcome q (Departures (s .paths) q) (arrival (s .paths)) released t → Invariant s (suc k) (depart s (suc c) latest y recorded train t)
+      go t (none-covers f) = finished (stops f)
       go t (least-run {S = S} {F = F} size-S size-F arrives ok cov least) = graded S F size-S size-F arrives ok cov least

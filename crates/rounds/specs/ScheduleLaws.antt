@@ -1,26 +1,34 @@
--- Schedules of an admitted sheet: they ride as the key lemma asks, and all are below the first limit. Assumes nothing.
-use mathlib.Core.Path.{_≡_, ap}
+-- Schedules of an admitted sheet: they ride as the key lemma asks, and their pairs are small and below the first limit. Assumes nothing.
+use mathlib.Core.Path.{_≡_, ap, subst}
 use mathlib.Core.Logic.{_⊎_, inl, inr}
 use mathlib.Core.List.{List}
 use Prim.Native.Nat.{ℕ, zero, suc, _-_, _≤_, _<_}
 use native.Mathlib.Omega.{arith}
 use native.Mathlib.Nat.{mul-le-mul}
-use lib.IntN.{ℤ}
+use lib.IntN.{ℤ, natAbs}
+use lib.ListN.{length}
 use lib.Signed.{_<ℤ_}
 use Rattle.numbers.specs.Counting.{at, nth, count, greatest}
 use Rattle.numbers.specs.Decides.{decides-le, decided}
 use Rattle.numbers.specs.CountingLaws.{count-none}
+use Rattle.numbers.specs.SignedLaws.{size-below}
 use Rattle.model.specs.Sheet.{Sheet}
+use Rattle.model.specs.Limits.{last-arrival}
 use Rattle.model.specs.Schedule.{Schedule, Departures}
 use Rattle.model.specs.Arrival.{arrival}
-use Rattle.model.specs.Lateness.{pairOf, lateness, greatest-lateness, worst}
-use Rattle.model.specs.LatenessLaws.{lateness-below, worst-one}
+use Rattle.model.specs.Lateness.{Pair, pairOf, lateness, greatest-lateness, worst}
+use Rattle.model.specs.LatenessLaws.{lateness-size, worst-one}
 use Rattle.model.specs.Admission.{Admitted}
 use Rattle.rounds.specs.LoadingLaws.{on, decides-on}
-use Rattle.rounds.specs.Timing.{timing}
+use Rattle.rounds.specs.Timing.{timed, timing}
 use Rattle.rounds.specs.Rounds.{above-everything}
 use Rattle.rounds.specs.GreedyLaws.{Rides}
-use Rattle.rounds.specs.TimingRuleLaws.{TimingRule, form-rule}
+use Rattle.rounds.specs.TimingRuleLaws.{Outcome, least-run, TimingRule, paths-rule}
+
+-- the greatest last arrival, and the greatest size of a weighted lateness
+pub record SmallPair (p : Pair) : Type 0 where
+  pub last : p .last ≤ last-arrival
+  pub worst : natAbs (p .worst) ≤ 160000000
 
 greatest-same : (f g : ℕ → ℤ) (m : ℕ) → ((j : ℕ) → j < suc m → f j ≡ g j) → greatest f m ≡ greatest g m
 unfolding greatest
@@ -40,8 +48,19 @@ worst-same s some-order train F G h =
 
 module _ (s : Sheet) (a : Admitted s) where
   -- the timing rule of the sheet's own form
-  pub rule : TimingRule (s .trains) (Departures (s .form) (s .trains)) (arrival (s .form)) (timing (s .form) (s .trains))
-  rule = form-rule (s .form) (s .trains) (a .few .trains) (a .in-range .form) (a .in-order)
+  pub rule : TimingRule (s .trains) (Departures (s .paths) (s .trains)) (arrival (s .paths)) (timing (s .paths) (s .trains))
+  rule = paths-rule (s .paths) (s .trains) (a .few .trains) (a .in-range .paths) (a .in-order)
+
+  -- a timing has a departure and an arrival for each train, none after the last arrival
+  pub timed-within : (released : ℕ → ℕ) (S F : List ℕ) → timing (s .paths) (s .trains) released ≡ timed S F
+      → (length S ≡ s .trains) × (length F ≡ s .trains) × ((i : ℕ) → 1 ≤ i → i ≤ s .trains → nth F i ≤ last-arrival)
+  timed-within released S F e =
+      go S F (subst (Outcome (s .trains) (Departures (s .paths) (s .trains)) (arrival (s .paths)) released) e (rule .outcome released))
+    where
+      go : (S F : List ℕ) → Outcome (s .trains) (Departures (s .paths) (s .trains)) (arrival (s .paths)) released (timed S F)
+          → (length S ≡ s .trains) × (length F ≡ s .trains) × ((i : ℕ) → 1 ≤ i → i ≤ s .trains → nth F i ≤ last-arrival)
+      go S F (least-run size-S size-F arrives ok cov least) =
+          (size-S, size-F, λ i p l. omega (arith, arrives i p l, rule .arrivals-bounded (nth S) ok i p l))
 
   module _ (train departure : List ℕ) (h : Schedule s train departure) where
     pub rides : Rides (s .orders) (s .trains) (s .capacity) (s .release) train (nth departure)
@@ -57,10 +76,20 @@ module _ (s : Sheet) (a : Admitted s) where
         room i p (inl l) = omega (arith, h .full i p l)
         room i p (inr l) = omega (arith, count-none (decides-on train i) (s .orders) (λ j lj e. omega (arith, h .on-a-train j lj .1)))
 
-    -- "a limit y, at first above everything"
-    pub below-first-limit : pairOf s train departure .worst <ℤ above-everything
-    below-first-limit =
-        let (j, l, e) = worst-one s train (arrival (s .form) (nth departure)) (a .complete .orders) in
-        let b = rule .arrivals-bounded (nth departure) (h .departures) (at train j) (h .on-a-train j l .0) (h .on-a-train j l .1) in
-        let m = mul-le-mul (a .in-range .orders j l .weight .1) b in
-        rw (← e) (lateness-below (s .weight j) (arrival (s .form) (nth departure) (at train j)) (s .due j) 1000000000 (omega arith))
+    -- its numbers are small
+    pub small-pair : SmallPair (pairOf s train departure)
+    small-pair =
+        let F = arrival (s .paths) (nth departure) in
+        let (j, l, e) = worst-one s train F (a .complete .orders) in
+        let bound = rule .arrivals-bounded (nth departure) (h .departures) in
+        let order = a .in-range .orders j l in
+        let late = mul-le-mul (order .weight .1) (bound (at train j) (h .on-a-train j l .0) (h .on-a-train j l .1)) in
+        let early = mul-le-mul (order .weight .1) (order .due .1) in
+        record {
+          last = bound (s .trains) (a .complete .trains) (omega arith);
+          worst = rw (← e) (lateness-size (s .weight j) (F (at train j)) (s .due j) 160000000 (omega arith) (omega arith));
+        }
+
+    -- "A LIMIT y, AT FIRST ABOVE EVERYTHING"
+    pub below-everything : pairOf s train departure .worst <ℤ above-everything
+    below-everything = size-below (pairOf s train departure .worst) 1000000000 (omega (arith, small-pair .worst))

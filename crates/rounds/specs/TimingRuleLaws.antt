@@ -10,11 +10,11 @@ use lib.ListN.{length}
 use Rattle.numbers.specs.Counting.{nth, row, each}
 use Rattle.numbers.specs.Decides.{Decides, decides-le, decides-each, numbered}
 use Rattle.numbers.specs.CountingLaws.{table-length, table-at}
-use Rattle.model.specs.Sheet.{Windows, Timetable, Form, windows, timetable}
+use Rattle.model.specs.Sheet.{Windows, Timetable, Paths, windows, timetable}
 use Rattle.model.specs.Schedule.{InWindows, OnTimetable, Departures}
 use Rattle.model.specs.Arrival.{arrival, arrivalBehind}
 use Rattle.model.specs.ArrivalLaws.{behind-by-the-gap, arrival-bound}
-use Rattle.model.specs.Admission.{WindowsInRange, TimesInRange, FormInRange, WindowsInOrder, TimesInOrder, FormInOrder}
+use Rattle.model.specs.Admission.{WindowsInRange, TimesInRange, PathsInRange, WindowsInOrder, TimesInOrder, PathsInOrder}
 use Rattle.rounds.specs.Timing.{Timed, stopped, timed, Departed, departures, arrive, on-timetable, timing}
 use Rattle.rounds.specs.TimingLaws.{climbs, Covers, Earliest, none-can, earliest-are, departures-are}
 
@@ -126,6 +126,6 @@ module _ (t : Timetable) (q : ℕ) (r : (i : ℕ) → 1 ≤ i → i ≤ q → Ti
       }
 
 -- EITHER FORM KEEPS THE RULE
-pub form-rule : (f : Form) (q : ℕ) → q ≤ 32 → FormInRange f q → FormInOrder f q → TimingRule q (Departures f q) (arrival f) (timing f q)
-form-rule (windows w) q few r o = windows-rule w q few r o
-form-rule (timetable t) q few r o = timetable-rule t q r o
+pub paths-rule : (f : Paths) (q : ℕ) → q ≤ 32 → PathsInRange f q → PathsInOrder f q → TimingRule q (Departures f q) (arrival f) (timing f q)
+paths-rule (windows w) q few r o = windows-rule w q few r o
+paths-rule (timetable t) q few r o = timetable-rule t q r o

@@ -1,117 +1,103 @@
--- WHAT IS READ IS ALWAYS INSIDE EVERY LIMIT THAT PLANNING TESTS, in both forms. Assumes nothing.
-use mathlib.Core.Path.{_≡_, _∙_}
+-- WHAT IS READ IS ADMITTED: it is inside every limit that planning tests. Assumes nothing.
+use mathlib.Core.Path.{_≡_, refl}
 use mathlib.Core.Bool.{true, _&&_}
 use mathlib.Core.List.{List}
 use Prim.Native.Nat.{ℕ, _≤_, _<_}
-use native.Mathlib.Omega.{arith}
 use lib.Dec.{leb, eqb}
-use lib.ListN.{take}
-use lib.Seq.{getD-take}
 use borrow.Author.Tests.{leb-true, eqb-true}
-use Rattle.numbers.specs.Counting.{at, nth}
+use Rattle.numbers.specs.Counting.{nth}
 use Rattle.model.specs.Sheet.{places}
-use Rattle.model.specs.Memory.{windowSheet, timetableSheet}
-use Rattle.model.specs.Admission.{Admitted, admitted, admission}
-use Rattle.model.specs.AdmissionLaws.{admitted-means}
+use Rattle.model.specs.Memory.{pathsBy, sheetOf}
+use Rattle.model.specs.Limits.{Inside, capacity-range, running-range}
+use Rattle.model.specs.Admission.{Admitted, FewWindows, SomeWindow, PathsInRange, PathsInOrder}
+use Rattle.model.specs.declared.Admission.the-variants.{Granted}
+use Rattle.model.specs.declared.Form.{Form}
+use Rattle.model.specs.declared.Form.the-variants.{Windows, Timetable}
 use Rattle.sheet.specs.FieldLaws.{and-true}
 use Rattle.sheet.specs.FaultLaws.{no-last-fault}
-use Rattle.sheet.specs.ColumnLaws.{Rows, rows-numbered, steps-numbered, places-take}
-use Rattle.sheet.specs.OrderLaws as O
-use Rattle.sheet.specs.Tests.{windowsComplete, timetableComplete, complete, endFault}
+use Rattle.sheet.specs.ColumnLaws.{rows-numbered, steps-numbered, column-numbered}
+use Rattle.sheet.specs.Tests.{windowsComplete, complete, endFault}
 use Rattle.sheet.specs.Reading.{readFrom}
+use Rattle.sheet.specs.SheetLinesLaws.{Good}
 use Rattle.sheet.specs.TextLaws.{text-good}
-use Rattle.sheet.specs.Sheets.{windowSheetOf, timetableSheetOf, windowReading, timetableReading}
-use Rattle.sheet.specs.WindowLaws.{Ends, Runs, GoodWindows}
-use Rattle.sheet.specs.TimetableLaws.{Places, Times, GoodTimetable}
-use Rattle.sheet.specs.declared.Answer.the-variants.{Read}
+use Rattle.sheet.specs.Sheets.{sheetFrom, reading}
+use Rattle.sheet.specs.WindowLaws.{Ends}
+use Rattle.sheet.specs.TrainLaws.{Times}
 use Rattle.sheet.specs.declared.SheetLines.{SheetLines}
-use Rattle.sheet.specs.declared.Form.the-variants.{Windows, Timetable}
 
--- R in a row of two columns, each up to its count
-row-taken : (R : ℕ → ℕ → Type 0) (l m : List ℕ) (n j : ℕ) → Rows R l m n → j < n → R (at (take n l) j) (at (take n m) j)
-row-taken R l m n j h k = rw (getD-take n l j 0 k, getD-take n m j 0 k) (h j k)
+-- what goes by the form
+record Admits (form : Form) (s : SheetLines) : Type 0 where
+  pub few : FewWindows (pathsBy form (sheetFrom form s))
+  pub some : SomeWindow (pathsBy form (sheetFrom form s))
+  pub in-range : PathsInRange (pathsBy form (sheetFrom form s)) (s .«train_count»)
+  pub in-order : PathsInOrder (pathsBy form (sheetFrom form s)) (s .«train_count»)
 
--- the capacities of the trains that are there make the places
-balanced-taken : (capacity : List ℕ) (trains orders : ℕ) → eqb (places (nth capacity) trains) orders ≡ true → places (nth (take trains capacity)) trains ≡ orders
-balanced-taken capacity trains orders e = places-take capacity trains trains (omega arith) ∙ eqb-true _ _ e
-
-window-admitted : (s : SheetLines) → GoodWindows s → endFault Windows s ≡ Read → Admitted (windowSheet (windowSheetOf s))
-unfolding windowSheetOf endFault complete windowsComplete
-window-admitted s h e =
+paths-admitted : (form : Form) (s : SheetLines) → Good form s → windowsComplete form s ≡ true → Admits form s
+unfolding sheetFrom windowsComplete
+paths-admitted Windows s h e =
     let v = s .«window_count» in
-    let q = s .«train_count» in
-    let n = s .orders .count in
-    let o = s .orders in
-    let (all, balanced) = no-last-fault (windowsComplete s) (eqb (places (nth (s .capacity)) q) n) e in
-    let (three, orders) = and-true (leb 1 (s .«gap_count») && leb 1 v && leb 1 q) (leb 1 n) all in
-    let (two, trains) = and-true (leb 1 (s .«gap_count») && leb 1 v) (leb 1 q) three in
-    let (gap, windows) = and-true (leb 1 (s .«gap_count»)) (leb 1 v) two in
+    let (gap, some) = and-true (leb 1 (s .«gap_count»)) (leb 1 v) e in
     record {
-      few = record { orders = h .orders .few; trains = h .few-trains; windows = h .few-windows };
-      complete = record { orders = leb-true 1 n orders; trains = leb-true 1 q trains; windows = leb-true 1 v windows };
+      few = h .windows .few;
+      some = leb-true 1 v some;
       in-range =
           record {
-            orders = λ j l.
-                let times = row-taken O.Times (o .release) (o .due) n j (h .orders .times) l in
-                record { release = times .0; due = times .1; weight = row-taken O.Weight (o .weight) (o .weight) n j (h .orders .weights) l };
-            capacity = λ i l k. rows-numbered Runs (s .capacity) (s .running) q (h .trains) i l k .0;
-            form =
-                record {
-                  gap = h .gap (leb-true 1 (s .«gap_count») gap);
-                  windows = λ m l k.
-                      let ends = rows-numbered Ends (s .«window_from») (s .«window_to») v (h .windows) m l k in
-                      record { from = ends .0; to = ends .1 };
-                  running = λ i l k. rows-numbered Runs (s .capacity) (s .running) q (h .trains) i l k .1;
-                };
+            gap = h .gap (leb-true 1 (s .«gap_count») gap);
+            windows = λ m l k.
+                let ends = rows-numbered Ends (s .«window_from») (s .«window_to») v (h .windows .ends) m l k in
+                record { from = ends .0; to = ends .1 };
+            running = column-numbered (Inside running-range) (s .running) (s .«train_count») (h .paths .runs);
           };
       in-order =
           record {
-            forward = rows-numbered _≤_ (s .«window_from») (s .«window_to») v (h .forward);
-            apart = steps-numbered _<_ (s .«window_to») (s .«window_from») v (h .apart);
+            forward = rows-numbered _≤_ (s .«window_from») (s .«window_to») v (h .windows .forward);
+            apart = steps-numbered _<_ (s .«window_to») (s .«window_from») v (h .windows .apart);
           };
-      balanced = balanced-taken (s .capacity) q n balanced;
     }
-
-timetable-admitted : (s : SheetLines) → GoodTimetable s → endFault Timetable s ≡ Read → Admitted (timetableSheet (timetableSheetOf s))
-unfolding timetableSheetOf endFault complete timetableComplete
-timetable-admitted s h e =
+paths-admitted Timetable s h e =
     let q = s .«train_count» in
-    let n = s .orders .count in
-    let o = s .orders in
-    let (all, balanced) = no-last-fault (timetableComplete s) (eqb (places (nth (s .capacity)) q) n) e in
-    let (trains, orders) = and-true (leb 1 q) (leb 1 n) all in
     record {
-      few = record { orders = h .orders .few; trains = h .few-trains; windows = tt };
-      complete = record { orders = leb-true 1 n orders; trains = leb-true 1 q trains; windows = tt };
-      in-range =
-          record {
-            orders = λ j l.
-                let times = row-taken O.Times (o .release) (o .due) n j (h .orders .times) l in
-                record { release = times .0; due = times .1; weight = row-taken O.Weight (o .weight) (o .weight) n j (h .orders .weights) l };
-            capacity = rows-numbered Places (s .capacity) (s .capacity) q (h .places);
-            form = λ i l k.
-                let times = rows-numbered Times (s .departure) (s .arrival) q (h .times) i l k in
-                record { departure = times .0; arrival = times .1 };
-          };
+      few = tt;
+      some = tt;
+      in-range = λ i l k.
+          let times = rows-numbered Times (s .departure) (s .arrival) q (h .paths .times) i l k in
+          record { departure = times .0; arrival = times .1 };
       in-order =
           record {
-            forward = rows-numbered _<_ (s .departure) (s .arrival) q (h .forward);
-            departures = steps-numbered _<_ (s .departure) (s .departure) q (h .departures);
-            arrivals = steps-numbered _<_ (s .arrival) (s .arrival) q (h .arrivals);
+            forward = rows-numbered _<_ (s .departure) (s .arrival) q (h .paths .forward);
+            departures = steps-numbered _<_ (s .departure) (s .departure) q (h .paths .departures);
+            arrivals = steps-numbered _<_ (s .arrival) (s .arrival) q (h .paths .arrivals);
           };
-      balanced = balanced-taken (s .capacity) q n balanced;
     }
 
--- A WINDOW SHEET THAT IS READ IS ADMITTED
-pub read-windows-admitted : (text : List ℕ) → windowReading text .answer ≡ Read → admission (windowSheet (windowReading text .sheet)) ≡ admitted
-unfolding windowReading
-read-windows-admitted text e =
-    admitted-means (windowSheet (windowReading text .sheet)) .1
-    (window-admitted (readFrom Windows text 0 .lines) (text-good Windows text 0 .lines .0) (text-good Windows text 0 .ended e))
+lines-admitted : (form : Form) (s : SheetLines) → Good form s → endFault form s ≡ Granted → Admitted (sheetOf (sheetFrom form s))
+unfolding sheetFrom endFault complete
+lines-admitted form s h e =
+    let q = s .«train_count» in
+    let n = s .orders .count in
+    let (all, balanced) = no-last-fault (complete form s) (eqb (places (nth (s .capacity)) q) n) e in
+    let (two, orders) = and-true (windowsComplete form s && leb 1 q) (leb 1 n) all in
+    let (windows, trains) = and-true (windowsComplete form s) (leb 1 q) two in
+    let paths = paths-admitted form s h windows in
+    record {
+      few = record { orders = h .orders .few; trains = h .trains .few; windows = paths .few };
+      complete = record { orders = leb-true 1 n orders; trains = leb-true 1 q trains; windows = paths .some };
+      in-range =
+          record {
+            orders = λ j l. let times = h .orders .times j l in record { release = times .0; due = times .1; weight = h .orders .weights j l };
+            capacity = column-numbered (Inside capacity-range) (s .capacity) q (h .trains .capacities);
+            paths = paths .in-range;
+          };
+      in-order = paths .in-order;
+      balanced = eqb-true _ _ balanced;
+    }
 
--- A TIMETABLE THAT IS READ IS ADMITTED
-pub read-timetable-admitted : (text : List ℕ) → timetableReading text .answer ≡ Read → admission (timetableSheet (timetableReading text .sheet)) ≡ admitted
-unfolding timetableReading
-read-timetable-admitted text e =
-    admitted-means (timetableSheet (timetableReading text .sheet)) .1
-    (timetable-admitted (readFrom Timetable text 0 .lines) (text-good Timetable text 0 .lines .0) (text-good Timetable text 0 .ended e))
+-- WHAT IS READ IS ADMITTED
+pub read-admitted : (form : Form) (text : List ℕ) → reading form text .admission ≡ Granted → Admitted (sheetOf (reading form text .sheet))
+unfolding reading
+read-admitted form text e = lines-admitted form (readFrom form text 0 .lines) (text-good form text 0 .lines .0) (text-good form text 0 .ended e)
+
+-- AND IS OF THE FORM ASKED FOR
+pub form-kept : (form : Form) (text : List ℕ) → reading form text .sheet .form ≡ form
+unfolding reading sheetFrom
+form-kept form text = refl

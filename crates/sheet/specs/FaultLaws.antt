@@ -10,37 +10,39 @@ use borrow.Author.Tests.{eqb-true}
 use Rattle.numbers.specs.Counting.{at, nth}
 use Rattle.model.specs.Sheet.{places}
 use Rattle.model.specs.declared.Refusal.{Refusal}
-use Rattle.sheet.specs.Faults.{passed, firstFault, lastFault}
-use Rattle.sheet.specs.declared.Answer.{Answer}
-use Rattle.sheet.specs.declared.Answer.the-variants.{Read, Refused}
+use Rattle.model.specs.Admission.{passed}
+use Rattle.sheet.specs.Faults.{firstFault, lastFault}
+use Rattle.sheet.specs.declared.LineTests.{LineTests}
+use Rattle.model.specs.declared.Admission.{Admission}
+use Rattle.model.specs.declared.Admission.the-variants.{Granted, Refused}
 
-pub refused-not-read : {A : Type 0} {r : Refusal} → Refused r ≡ Read → A
-refused-not-read e = let z : _≡_ {A = ℕ} 0 1 = cc in absurd (omega arith)
+pub refused-not-granted : {A : Type 0} {r : Refusal} → Refused r ≡ Granted → A
+refused-not-granted e = let z : _≡_ {A = ℕ} 0 1 = cc in absurd (omega arith)
 
-passed-read : (b : Bool) (r : Refusal) (next : Answer) → passed b r next ≡ Read → (b ≡ true) × (next ≡ Read)
-passed-read true r next e = (refl, e)
-passed-read false r next e = refused-not-read e
+pub passed-granted : (b : Bool) (r : Refusal) (next : Admission) → passed b r next ≡ Granted → (b ≡ true) × (next ≡ Granted)
+passed-granted true r next e = (refl, e)
+passed-granted false r next e = refused-not-granted e
 
-pub record NoFault (late′ few′ ranged′ ordered′ : Bool) : Type 0 where
-  pub late : late′ ≡ true
-  pub few : few′ ≡ true
-  pub ranged : ranged′ ≡ true
-  pub ordered : ordered′ ≡ true
+pub record NoFault (t : LineTests) : Type 0 where
+  pub late : t .«late_enough» ≡ true
+  pub few : t .few ≡ true
+  pub ranged : t .«in_range» ≡ true
+  pub ordered : t .«in_order» ≡ true
 
-pub no-fault : (line : ℕ) (late few ranged ordered : Bool) → firstFault line late few ranged ordered ≡ Read → NoFault late few ranged ordered
+pub no-fault : (line : ℕ) (t : LineTests) → firstFault line t ≡ Granted → NoFault t
 unfolding firstFault
-no-fault line late few ranged ordered e₃ =
-    let (p₃, e₄) = passed-read late _ _ e₃ in
-    let (p₄, e₂) = passed-read few _ _ e₄ in
-    let (p₂, e₆) = passed-read ranged _ _ e₂ in
-    let (p₆, e) = passed-read ordered _ _ e₆ in
+no-fault line t e₃ =
+    let (p₃, e₄) = passed-granted (t .«late_enough») _ _ e₃ in
+    let (p₄, e₂) = passed-granted (t .few) _ _ e₄ in
+    let (p₂, e₆) = passed-granted (t .«in_range») _ _ e₂ in
+    let (p₆, e) = passed-granted (t .«in_order») _ _ e₆ in
     record { late = p₃; few = p₄; ranged = p₂; ordered = p₆ }
 
-pub no-last-fault : (complete balanced : Bool) → lastFault complete balanced ≡ Read → (complete ≡ true) × (balanced ≡ true)
+pub no-last-fault : (complete balanced : Bool) → lastFault complete balanced ≡ Granted → (complete ≡ true) × (balanced ≡ true)
 unfolding lastFault
 no-last-fault complete balanced e₅ =
-    let (p₅, e₇) = passed-read complete _ _ e₅ in
-    let (p₇, e) = passed-read balanced _ _ e₇ in
+    let (p₅, e₇) = passed-granted complete _ _ e₅ in
+    let (p₇, e) = passed-granted balanced _ _ e₇ in
     (p₅, p₇)
 
 -- the places with one train more

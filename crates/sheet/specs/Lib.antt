@@ -12,11 +12,14 @@ pub mod ColumnLaws
 pub mod OrderLaws
 pub mod Tests
 pub mod SheetLines
+pub mod WindowLaws
+pub mod TrainLaws
+pub mod SheetLinesLaws
 pub mod Reading
 pub mod ReadingLaws
-pub mod WindowLaws
-pub mod TimetableLaws
 pub mod Sheets
+pub mod ReadingCall
+pub mod ReadingCallLaws
 pub mod TextLaws
 pub mod AdmissionLaws
 pub mod OrderNames

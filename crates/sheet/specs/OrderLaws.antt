@@ -1,27 +1,22 @@
 -- O lines without a fault keep the orders in their ranges and the names in the text. Assumes nothing.
 use mathlib.Core.Path.{_≡_, refl}
-use mathlib.Core.Bool.{true, _&&_}
+use mathlib.Core.Bool.{_&&_}
 use mathlib.Core.List.{List}
 use Prim.Native.Nat.{ℕ, _≤_, _<_}
 use native.Mathlib.Omega.{arith}
-use lib.Dec.{leb, ltb}
 use lib.ListN.{length, length-set}
 use borrow.Author.Tests.{ltb-true}
 use Rattle.model.specs.Limits.{Inside, inside, release-range, due-range, weight-range}
 use Rattle.sheet.specs.FieldLaws.{and-true, inside-means}
-use Rattle.sheet.specs.LineLaws.{NameAt}
-use Rattle.sheet.specs.FaultLaws.{NoFault, no-fault}
-use Rattle.sheet.specs.ColumnLaws.{Rows, rows-more}
-use Rattle.sheet.specs.OrderLines.{noOrders, orderInRange, orderFault, withOrder}
-use Rattle.sheet.specs.declared.Answer.the-variants.{Read}
+use Rattle.sheet.specs.Names.{NameAt}
+use Rattle.sheet.specs.FaultLaws.{NoFault}
+use Rattle.sheet.specs.ColumnLaws.{Rows, Column, rows-more, column-more}
+use Rattle.sheet.specs.OrderLines.{noOrders, orderInRange, orderTests, withOrder}
 use Rattle.sheet.specs.declared.Order.{Order}
 use Rattle.sheet.specs.declared.Orders.{Orders}
 
 abbrev pub Times : ℕ → ℕ → Type 0
 Times release due = Inside release-range release × Inside due-range due
-
-abbrev pub Weight : ℕ → ℕ → Type 0
-Weight weight same = Inside weight-range weight
 
 pub record GoodOrders (o : Orders) : Type 0 where
   pub few : o .count ≤ 200
@@ -31,7 +26,7 @@ pub record GoodOrders (o : Orders) : Type 0 where
   pub start-long : length (o .«name_start») ≡ 200
   pub length-long : length (o .«name_length») ≡ 200
   pub times : Rows Times (o .release) (o .due) (o .count)
-  pub weights : Rows Weight (o .weight) (o .weight) (o .count)
+  pub weights : Column (Inside weight-range) (o .weight) (o .count)
 
 -- every name lies in the text
 abbrev pub NamesIn : List ℕ → Orders → Type 0
@@ -51,19 +46,17 @@ no-orders-good =
       weights = λ j l. absurd (omega arith);
     }
 
-module _ (line above : ℕ) (o : Orders) (x : Order) (e : orderFault line above (o .count) x ≡ Read) where
-  order-tests : NoFault (leb above 4) (ltb (o .count) 200) (orderInRange x) true
-  unfolding orderFault
-  order-tests = no-fault line (leb above 4) (ltb (o .count) 200) (orderInRange x) true e
-
+module _ (above : ℕ) (o : Orders) (x : Order) (e : NoFault (orderTests above (o .count) x)) where
   pub order-room : o .count < 200
-  order-room = ltb-true (o .count) 200 (order-tests .few)
+  unfolding orderTests
+  order-room = ltb-true (o .count) 200 (e .few)
 
   pub order-more : GoodOrders o → GoodOrders (withOrder o x)
-  unfolding withOrder orderInRange
+  unfolding withOrder orderTests orderInRange
   order-more g =
       let room : o .count < 200 = order-room in
-      let (both, weight) = and-true (inside release-range (x .release) && inside due-range (x .due)) (inside weight-range (x .weight)) (order-tests .ranged) in
+      let (both, weight) =
+      and-true (inside release-range (x .release) && inside due-range (x .due)) (inside weight-range (x .weight)) (e .ranged) in
       let (release, due) = and-true (inside release-range (x .release)) (inside due-range (x .due)) both in
       record {
         few = omega arith;
@@ -73,10 +66,11 @@ module _ (line above : ℕ) (o : Orders) (x : Order) (e : orderFault line above 
         start-long = simp length-set (g .start-long);
         length-long = simp length-set (g .length-long);
         times =
-            rows-more Times (o .release) (o .due) (o .count) (x .release) (x .due) (omega (arith, g .release-long)) (omega (arith, g .due-long)) (g .times)
+            rows-more Times (o .release) (o .due) (o .count) (x .release) (x .due)
+            (omega (arith, g .release-long)) (omega (arith, g .due-long)) (g .times)
             (inside-means release-range (x .release) release, inside-means due-range (x .due) due);
         weights =
-            rows-more Weight (o .weight) (o .weight) (o .count) (x .weight) (x .weight) (omega (arith, g .weight-long)) (omega (arith, g .weight-long)) (g .weights)
+            column-more (Inside weight-range) (o .weight) (o .count) (x .weight) (omega (arith, g .weight-long)) (g .weights)
             (inside-means weight-range (x .weight) weight);
       }
 

@@ -4,9 +4,8 @@ use Prim.Native.Nat.{ℕ, _+_}
 use lib.Dec.{leb, ltb}
 use lib.ListN.{set, replicate}
 use Rattle.model.specs.Limits.{inside, release-range, due-range, weight-range, order-counts}
-use Rattle.sheet.specs.Faults.{firstFault}
 use Rattle.sheet.specs.Kinds.{order-kind}
-use Rattle.sheet.specs.declared.Answer.{Answer}
+use Rattle.sheet.specs.declared.LineTests.{LineTests}
 use Rattle.sheet.specs.declared.Order.{Order}
 use Rattle.sheet.specs.declared.Orders.{Orders}
 
@@ -24,9 +23,14 @@ unfoldable pub orderInRange : Order → Bool
 orderInRange o = inside release-range (o .release) && inside due-range (o .due) && inside weight-range (o .weight)
 
 -- an O line after `count` others, under a line of the kind `above`
-unfoldable pub orderFault : ℕ → ℕ → ℕ → Order → Answer
-unfolding firstFault orderInRange
-orderFault line above count o = firstFault line (leb above order-kind) (ltb count (order-counts .most)) (orderInRange o) true
+unfoldable pub orderTests : (above count : ℕ) → Order → LineTests
+unfolding orderInRange
+orderTests above count o = record {
+  «late_enough» = leb above order-kind;
+  few = ltb count (order-counts .most);
+  «in_range» = orderInRange o;
+  «in_order» = true;
+}
 
 -- one order more
 unfoldable pub withOrder : Orders → Order → Orders

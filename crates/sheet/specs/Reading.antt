@@ -8,39 +8,39 @@ use Rattle.model.specs.declared.Refusal.{Refusal}
 use Rattle.sheet.specs.Lines.{lineAt}
 use Rattle.sheet.specs.Tests.{lineFault, endFault}
 use Rattle.sheet.specs.SheetLines.{noLines, withLine}
-use Rattle.sheet.specs.declared.Form.{Form}
+use Rattle.model.specs.declared.Form.{Form}
 use Rattle.sheet.specs.declared.Line.{Line}
 use Rattle.sheet.specs.declared.LineAt.{LineAt}
 use Rattle.sheet.specs.declared.LineAt.the-variants as L
-use Rattle.sheet.specs.declared.Answer.{Answer}
-use Rattle.sheet.specs.declared.Answer.the-variants as A
+use Rattle.model.specs.declared.Admission.{Admission}
+use Rattle.model.specs.declared.Admission.the-variants as A
 use Rattle.sheet.specs.declared.SheetLines.{SheetLines}
 use Rattle.sheet.specs.declared.SheetText.{SheetText}
 
 -- all lines together, or the first refusal; "no sheet is given" then
 abbrev pub taken : SheetLines → SheetText
-taken s = record { answer = A.Read; lines = s }
+taken s = record { admission = A.Granted; lines = s }
 
 unfoldable pub refused : Refusal → SheetText
 unfolding noLines
-refused r = record { answer = A.Refused r; lines = noLines }
+refused r = record { admission = A.Refused r; lines = noLines }
 
 abbrev pub onLine : LineAt → (Line → ℕ → SheetText) → SheetText
 onLine (L.Read l next) rest = rest l next
 onLine (L.Refused r) rest = refused r
 
-abbrev pub onAnswer : Answer → SheetText → SheetText
-onAnswer A.Read rest = rest
-onAnswer (A.Refused r) rest = refused r
+abbrev pub onAdmission : Admission → SheetText → SheetText
+onAdmission A.Granted rest = rest
+onAdmission (A.Refused r) rest = refused r
 
 -- the lines from position p on, after those that gave s; the next has the number `line`. No more than n lines are left.
 unfoldable pub readLines : Form → ℕ → List ℕ → ℕ → ℕ → SheetLines → SheetText
 unfolding lineAt lineFault withLine endFault
-readLines form zero text p line s = onAnswer (endFault form s) (taken s)
+readLines form zero text p line s = onAdmission (endFault form s) (taken s)
 readLines form (suc n) text p line s =
     cond (ltb p (length text))
-    (onLine (lineAt text p line) (λ l next. onAnswer (lineFault form line s l) (readLines form n text next (line + 1) (withLine s l))))
-    (onAnswer (endFault form s) (taken s))
+    (onLine (lineAt text p line) (λ l next. onAdmission (lineFault form line s l) (readLines form n text next (line + 1) (withLine s l))))
+    (onAdmission (endFault form s) (taken s))
 
 -- the lines from position p on, the first of them number 1; there are no more lines than bytes (ReadingLaws: one-more-bound)
 unfoldable pub readFrom : Form → List ℕ → ℕ → SheetText

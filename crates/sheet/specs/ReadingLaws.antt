@@ -9,17 +9,17 @@ use lib.ListN.{length}
 use borrow.Author.Tests.{lt-ltb, le-ltb}
 use Rattle.model.specs.declared.Refusal.{Refusal}
 use Rattle.sheet.specs.Lines.{lineAt}
-use Rattle.sheet.specs.FaultLaws.{refused-not-read}
+use Rattle.sheet.specs.FaultLaws.{refused-not-granted}
 use Rattle.sheet.specs.LineLaws.{by-test, Sound, line-sound}
 use Rattle.sheet.specs.Tests.{lineFault, endFault}
 use Rattle.sheet.specs.SheetLines.{noLines, withLine}
-use Rattle.sheet.specs.Reading.{taken, refused, onLine, onAnswer, readLines, readFrom}
-use Rattle.sheet.specs.declared.Form.{Form}
+use Rattle.sheet.specs.Reading.{taken, refused, onLine, onAdmission, readLines, readFrom}
+use Rattle.model.specs.declared.Form.{Form}
 use Rattle.sheet.specs.declared.Line.{Line}
 use Rattle.sheet.specs.declared.LineAt.{LineAt}
 use Rattle.sheet.specs.declared.LineAt.the-variants as L
-use Rattle.sheet.specs.declared.Answer.{Answer}
-use Rattle.sheet.specs.declared.Answer.the-variants as A
+use Rattle.model.specs.declared.Admission.{Admission}
+use Rattle.model.specs.declared.Admission.the-variants as A
 use Rattle.sheet.specs.declared.SheetLines.{SheetLines}
 use Rattle.sheet.specs.declared.SheetText.{SheetText}
 
@@ -27,13 +27,13 @@ module _ (form : Form) where
   -- where lines are left there is a next one
   pub read-next : (n : ℕ) (text : List ℕ) (p line : ℕ) (s : SheetLines) → p < length text → 0 < n
       → readLines form n text p line s
-      ≡ onLine (lineAt text p line) (λ l next. onAnswer (lineFault form line s l) (readLines form (n - 1) text next (line + 1) (withLine s l)))
+      ≡ onLine (lineAt text p line) (λ l next. onAdmission (lineFault form line s l) (readLines form (n - 1) text next (line + 1) (withLine s l)))
   unfolding readLines
   read-next zero text p line s h k = absurd (omega arith)
   read-next (suc n) text p line s h k = let e : suc n - 1 ≡ n = omega arith in rw (lt-ltb p (length text) h, e)
 
   pub read-over : (n : ℕ) (text : List ℕ) (p line : ℕ) (s : SheetLines) → length text ≤ p
-      → readLines form n text p line s ≡ onAnswer (endFault form s) (taken s)
+      → readLines form n text p line s ≡ onAdmission (endFault form s) (taken s)
   unfolding readLines
   read-over zero text p line s h = refl
   read-over (suc n) text p line s h = rw (le-ltb p (length text) h)
@@ -52,12 +52,13 @@ module _ (form : Form) where
       record { first = omega arith; passed = omega arith; same = ap (λ (k : ℕ). readLines form k text p 1 noLines) n }
 
   module _ {whole : SheetText} {text : List ℕ} {p line : ℕ} {s : SheetLines} (r : Rest whole text p line s) where
-    pub rest-ends : length text ≤ p → whole ≡ onAnswer (endFault form s) (taken s)
+    pub rest-ends : length text ≤ p → whole ≡ onAdmission (endFault form s) (taken s)
     rest-ends h = r .same ∙ read-over (length text - (line - 1)) text p line s h
 
     module _ (h : p < length text) where
       rest-next : whole
-          ≡ onLine (lineAt text p line) (λ l next. onAnswer (lineFault form line s l) (readLines form (length text - (line - 1) - 1) text next (line + 1) (withLine s l)))
+          ≡ onLine (lineAt text p line) (λ l next. onAdmission (lineFault form line s l) (readLines form (length text - (line - 1) - 1) text next
+          (line + 1) (withLine s l)))
       rest-next = r .same ∙ read-next (length text - (line - 1)) text p line s h (omega (arith, r .first, r .passed))
 
       pub rest-malformed : (f : Refusal) → lineAt text p line ≡ L.Refused f → whole ≡ refused f
@@ -71,7 +72,7 @@ module _ (form : Form) where
         pub next-later : p < next
         next-later = subst (Sound text p line) e (line-sound text p line) .0
 
-        pub rest-goes-on : lineFault form line s l ≡ A.Read → Rest whole text next (line + 1) (withLine s l)
+        pub rest-goes-on : lineFault form line s l ≡ A.Granted → Rest whole text next (line + 1) (withLine s l)
         rest-goes-on k =
             let n : length text - (line - 1) - 1 ≡ length text - (line + 1 - 1) = omega (arith, r .first) in
             record {
@@ -85,36 +86,37 @@ module _ (form : Form) where
   module _ (text : List ℕ) where
     same-turn : (n p line : ℕ) (s : SheetLines) (x : LineAt) → lineAt text p line ≡ x
         → ((l : Line) (next : ℕ) → p < next → readLines form (suc n) text next (line + 1) (withLine s l) ≡ readLines form n text next (line + 1) (withLine s l))
-        → onLine x (λ l next. onAnswer (lineFault form line s l) (readLines form (suc n) text next (line + 1) (withLine s l)))
-        ≡ onLine x (λ l next. onAnswer (lineFault form line s l) (readLines form n text next (line + 1) (withLine s l)))
-    same-turn n p line s (L.Read l next) e k = ap (onAnswer (lineFault form line s l)) (k l next (subst (Sound text p line) e (line-sound text p line) .0))
+        → onLine x (λ l next. onAdmission (lineFault form line s l) (readLines form (suc n) text next (line + 1) (withLine s l)))
+        ≡ onLine x (λ l next. onAdmission (lineFault form line s l) (readLines form n text next (line + 1) (withLine s l)))
+    same-turn n p line s (L.Read l next) e k = ap (onAdmission (lineFault form line s l)) (k l next (subst (Sound text p line) e (line-sound text p line) .0))
     same-turn n p line s (L.Refused r) e k = refl
 
     pub one-more-bound : (n p line : ℕ) (s : SheetLines) → length text ≤ p + n → readLines form (suc n) text p line s ≡ readLines form n text p line s
     unfolding readLines
     one-more-bound zero p line s h = rw (le-ltb p (length text) (omega arith))
     one-more-bound (suc n) p line s h =
-        ap (λ (t : SheetText). cond (ltb p (length text)) t (onAnswer (endFault form s) (taken s)))
+        ap (λ (t : SheetText). cond (ltb p (length text)) t (onAdmission (endFault form s) (taken s)))
         (same-turn n p line s (lineAt text p line) refl (λ l next k. one-more-bound n next (line + 1) (withLine s l) (omega arith)))
 
   -- ---- what a whole reading keeps: a text that is read has no fault at its end, and one that is refused has no lines
   pub record Whole (P : SheetLines → Type 0) (t : SheetText) : Type 0 where
     pub lines : P (t .lines)
-    pub ended : t .answer ≡ A.Read → endFault form (t .lines) ≡ A.Read
-    pub empty : (r : Refusal) → t .answer ≡ A.Refused r → t .lines ≡ noLines
+    pub ended : t .admission ≡ A.Granted → endFault form (t .lines) ≡ A.Granted
+    pub empty : (r : Refusal) → t .admission ≡ A.Refused r → t .lines ≡ noLines
 
   module _ (P : SheetLines → Type 0) (text : List ℕ) (none : P noLines)
-      (more : (p line next : ℕ) (s : SheetLines) (l : Line) → lineAt text p line ≡ L.Read l next → lineFault form line s l ≡ A.Read → P s → P (withLine s l)) where
+      (more : (p line next : ℕ) (s : SheetLines) (l : Line) → lineAt text p line ≡ L.Read l next → lineFault form line s l ≡ A.Granted → P s
+      → P (withLine s l)) where
     of-refused : (r : Refusal) → Whole P (refused r)
     unfolding refused
-    of-refused r = record { lines = none; ended = λ e. refused-not-read e; empty = λ f e. refl }
+    of-refused r = record { lines = none; ended = λ e. refused-not-granted e; empty = λ f e. refl }
 
-    after : (a : Answer) (t : SheetText) → (a ≡ A.Read → Whole P t) → Whole P (onAnswer a t)
-    after A.Read t k = k refl
+    after : (a : Admission) (t : SheetText) → (a ≡ A.Granted → Whole P t) → Whole P (onAdmission a t)
+    after A.Granted t k = k refl
     after (A.Refused r) t k = of-refused r
 
-    at-end : (s : SheetLines) → P s → Whole P (onAnswer (endFault form s) (taken s))
-    at-end s h = after (endFault form s) (taken s) (λ e. record { lines = h; ended = λ f. e; empty = λ r f. refused-not-read (sym f) })
+    at-end : (s : SheetLines) → P s → Whole P (onAdmission (endFault form s) (taken s))
+    at-end s h = after (endFault form s) (taken s) (λ e. record { lines = h; ended = λ f. e; empty = λ r f. refused-not-granted (sym f) })
 
     turn : (x : LineAt) (rest : Line → ℕ → SheetText) → ((l : Line) (next : ℕ) → x ≡ L.Read l next → Whole P (rest l next)) → Whole P (onLine x rest)
     turn (L.Read l next) rest k = k l next refl
@@ -125,7 +127,8 @@ module _ (form : Form) where
     read-keeps zero p line s h = at-end s h
     read-keeps (suc n) p line s h =
         by-test (Whole P) (ltb p (length text))
-        (λ t. turn (lineAt text p line) _ (λ l next e. after (lineFault form line s l) _ (λ f. read-keeps n next (line + 1) (withLine s l) (more p line next s l e f h))))
+        (λ t. turn (lineAt text p line) _ (λ l next e. after (lineFault form line s l) _ (λ f. read-keeps n next (line + 1) (withLine s l)
+        (more p line next s l e f h))))
         (λ t. at-end s h)
 
     -- what each line without a fault keeps, the whole text keeps

@@ -5,29 +5,27 @@ use Prim.Native.Nat.{ℕ, zero, suc}
 use native.Mathlib.Omega.{arith}
 use borrow.Author.Tests.{le-leb, lt-leb}
 use Rattle.model.specs.declared.Refusal.{Refusal}
+use Rattle.model.specs.declared.Admission.the-variants.{Refused}
+use Rattle.model.specs.declared.Form.{Form}
 use Rattle.sheet.specs.OrderLines.{noOrders}
 use Rattle.sheet.specs.SheetLines.{noLines}
 use Rattle.sheet.specs.Reading.{readFrom}
-use Rattle.sheet.specs.Sheets.{windowSheetOf, timetableSheetOf, windowReading, timetableReading}
-use Rattle.sheet.specs.OrderNames.{nameOf, nameIn}
+use Rattle.sheet.specs.Sheets.{sheetFrom, reading}
+use Rattle.sheet.specs.OrderNames.{nameAt, nameIn, namesIn}
 use Rattle.sheet.specs.TextLaws.{text-good}
-use Rattle.sheet.specs.declared.Answer.the-variants.{Refused}
-use Rattle.sheet.specs.declared.Form.{Form}
-use Rattle.sheet.specs.declared.Form.the-variants.{Windows, Timetable}
+use Rattle.sheet.specs.declared.NamePlaces.{NamePlaces}
+use Rattle.sheet.specs.declared.SheetLines.{SheetLines}
 
-pub refused-windows : (text : List ℕ) (r : Refusal) → windowReading text .answer ≡ Refused r → windowReading text .sheet ≡ windowSheetOf noLines
-unfolding windowReading
-refused-windows text r e = ap windowSheetOf (text-good Windows text 0 .empty r e)
+pub refused-sheet : (form : Form) (text : List ℕ) (r : Refusal) → reading form text .admission ≡ Refused r → reading form text .sheet ≡ sheetFrom form noLines
+unfolding reading
+refused-sheet form text r e = ap (sheetFrom form) (text-good form text 0 .empty r e)
 
-pub refused-timetable : (text : List ℕ) (r : Refusal) → timetableReading text .answer ≡ Refused r → timetableReading text .sheet ≡ timetableSheetOf noLines
-unfolding timetableReading
-refused-timetable text r e = ap timetableSheetOf (text-good Timetable text 0 .empty r e)
+no-name : (p : NamePlaces) → p .count ≡ 0 → (j : ℕ) → nameAt p j ≡ record { start = 0; long = 0 }
+unfolding nameAt
+no-name p e zero = refl
+no-name p e (suc j) = simp (le-leb 1 (suc j) (omega arith), lt-leb (suc j) (p .count) (omega arith))
 
-no-name : (j : ℕ) → nameOf noOrders j ≡ record { start = 0; long = 0 }
-unfolding nameOf noOrders
-no-name zero = refl
-no-name (suc j) = simp (le-leb 1 (suc j) (omega arith), lt-leb (suc j) 0 (omega arith))
-
-pub refused-name : (form : Form) (text : List ℕ) (r : Refusal) (j : ℕ) → readFrom form text 0 .answer ≡ Refused r → nameIn form text j ≡ record { start = 0; long = 0 }
-unfolding nameIn noLines
-refused-name form text r j e = rw (text-good form text 0 .empty r e) (no-name j)
+pub refused-name : (form : Form) (text : List ℕ) (r : Refusal) (j : ℕ) → readFrom form text 0 .admission ≡ Refused r
+    → nameIn form text j ≡ record { start = 0; long = 0 }
+unfolding nameIn namesIn noLines noOrders
+refused-name form text r j e = no-name (namesIn form text) (ap (λ (s : SheetLines). s .orders .count) (text-good form text 0 .empty r e)) j

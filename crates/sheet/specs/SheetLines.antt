@@ -120,9 +120,9 @@ withLine s (L.FixedTrain t) = withFixedTrain s t
 withLine s (L.Order o) = withOrderLine s o
 
 -- there is room for one of its kind
-abbrev pub Room : SheetLines → Line → Type 0
-Room s (L.Gap g) = s .«gap_count» < 1
-Room s (L.Window w) = s .«window_count» < window-counts .most
-Room s (L.Train t) = s .«train_count» < train-counts .most
-Room s (L.FixedTrain t) = s .«train_count» < train-counts .most
-Room s (L.Order o) = s .orders .count < order-counts .most
+abbrev pub OneMore : SheetLines → Line → Type 0
+OneMore s (L.Gap g) = s .«gap_count» < 1
+OneMore s (L.Window w) = s .«window_count» < window-counts .most
+OneMore s (L.Train t) = s .«train_count» < train-counts .most
+OneMore s (L.FixedTrain t) = s .«train_count» < train-counts .most
+OneMore s (L.Order o) = s .orders .count < order-counts .most

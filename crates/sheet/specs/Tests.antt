@@ -1,22 +1,25 @@
 -- DOCUMENT 01, "THE SHEET", THE TABLE OF REFUSALS: the tests of a line after those that gave s, and those after the last line.
-use mathlib.Core.Bool.{Bool, true, _&&_, _||_}
+use mathlib.Core.Bool.{Bool, true, false, not, _&&_, _||_}
 use mathlib.Core.List.{List}
 use Prim.Native.Nat.{ℕ}
 use lib.Dec.{leb, ltb, eqb}
 use Rattle.numbers.specs.Counting.{nth}
 use Rattle.model.specs.Sheet.{places}
-use Rattle.model.specs.Limits.{inside, gap-range, window-range, capacity-range, running-range, departure-range, arrival-range, window-counts, train-counts}
+use Rattle.model.specs.Limits.{inside, gap-range, window-range, capacity-range, running-range, departure-range, arrival-range}
+use Rattle.model.specs.Limits.{window-counts, train-counts}
+use Rattle.model.specs.Admission.{passed}
 use Rattle.model.specs.declared.Refusal.the-variants.{Malformed}
 use Rattle.sheet.specs.Kinds.{gap-kind, window-kind, train-kind}
 use Rattle.sheet.specs.Faults.{firstFault, lastFault}
-use Rattle.sheet.specs.OrderLines.{orderFault}
-use Rattle.sheet.specs.declared.Answer.{Answer}
-use Rattle.sheet.specs.declared.Answer.the-variants.{Refused}
-use Rattle.sheet.specs.declared.Form.{Form}
-use Rattle.sheet.specs.declared.Form.the-variants.{Windows, Timetable}
+use Rattle.sheet.specs.OrderLines.{orderTests}
+use Rattle.model.specs.declared.Admission.{Admission}
+use Rattle.model.specs.declared.Form.{Form}
+use Rattle.model.specs.declared.Form.the-variants.{Windows, Timetable}
+use Rattle.sheet.specs.declared.Gap.{Gap}
 use Rattle.sheet.specs.declared.Window.{Window}
 use Rattle.sheet.specs.declared.Train.{Train}
 use Rattle.sheet.specs.declared.FixedTrain.{FixedTrain}
+use Rattle.sheet.specs.declared.LineTests.{LineTests}
 use Rattle.sheet.specs.declared.Line.{Line}
 use Rattle.sheet.specs.declared.Line.the-variants as L
 use Rattle.sheet.specs.declared.SheetLines.{SheetLines}
@@ -42,47 +45,78 @@ fixedTrainInOrder count departures arrivals t =
     ltb (t .departure) (t .arrival)
     && (eqb count 0 || (ltb (nth departures count) (t .departure) && ltb (nth arrivals count) (t .arrival)))
 
--- ---- the first fault of a line; "There is one reading call per form, and a line of the other form gives 1"
+-- ---- the tests of each kind
 
-unfoldable pub windowFault : ℕ → SheetLines → Line → Answer
-unfolding firstFault windowInRange windowInOrder trainInRange orderFault
-windowFault line s (L.Gap g) = firstFault line (leb (s .above) gap-kind) (ltb (s .«gap_count») 1) (inside gap-range (g .gap)) true
-windowFault line s (L.Window w) =
-    firstFault line (leb (s .above) window-kind) (ltb (s .«window_count») (window-counts .most)) (windowInRange w)
-    (windowInOrder (s .«window_count») (s .«window_to») w)
-windowFault line s (L.Train t) =
-    firstFault line (leb (s .above) train-kind) (ltb (s .«train_count») (train-counts .most)) (trainInRange t) true
-windowFault line s (L.FixedTrain t) = Refused (Malformed line)
-windowFault line s (L.Order o) = orderFault line (s .above) (s .orders .count) o
+unfoldable pub gapTests : SheetLines → Gap → LineTests
+gapTests s g = record {
+  «late_enough» = leb (s .above) gap-kind;
+  few = ltb (s .«gap_count») 1;
+  «in_range» = inside gap-range (g .gap);
+  «in_order» = true;
+}
 
-unfoldable pub timetableFault : ℕ → SheetLines → Line → Answer
-unfolding firstFault fixedTrainInRange fixedTrainInOrder orderFault
-timetableFault line s (L.Gap g) = Refused (Malformed line)
-timetableFault line s (L.Window w) = Refused (Malformed line)
-timetableFault line s (L.Train t) = Refused (Malformed line)
-timetableFault line s (L.FixedTrain t) =
-    firstFault line (leb (s .above) train-kind) (ltb (s .«train_count») (train-counts .most)) (fixedTrainInRange t)
-    (fixedTrainInOrder (s .«train_count») (s .departure) (s .arrival) t)
-timetableFault line s (L.Order o) = orderFault line (s .above) (s .orders .count) o
+unfoldable pub windowTests : SheetLines → Window → LineTests
+unfolding windowInRange windowInOrder
+windowTests s w = record {
+  «late_enough» = leb (s .above) window-kind;
+  few = ltb (s .«window_count») (window-counts .most);
+  «in_range» = windowInRange w;
+  «in_order» = windowInOrder (s .«window_count») (s .«window_to») w;
+}
 
-unfoldable pub lineFault : Form → ℕ → SheetLines → Line → Answer
-unfolding windowFault timetableFault
-lineFault Windows = windowFault
-lineFault Timetable = timetableFault
+unfoldable pub trainTests : SheetLines → Train → LineTests
+unfolding trainInRange
+trainTests s t = record {
+  «late_enough» = leb (s .above) train-kind;
+  few = ltb (s .«train_count») (train-counts .most);
+  «in_range» = trainInRange t;
+  «in_order» = true;
+}
+
+unfoldable pub fixedTrainTests : SheetLines → FixedTrain → LineTests
+unfolding fixedTrainInRange fixedTrainInOrder
+fixedTrainTests s t = record {
+  «late_enough» = leb (s .above) train-kind;
+  few = ltb (s .«train_count») (train-counts .most);
+  «in_range» = fixedTrainInRange t;
+  «in_order» = fixedTrainInOrder (s .«train_count») (s .departure) (s .arrival) t;
+}
+
+unfoldable pub kindTests : SheetLines → Line → LineTests
+unfolding gapTests windowTests trainTests fixedTrainTests orderTests
+kindTests s (L.Gap g) = gapTests s g
+kindTests s (L.Window w) = windowTests s w
+kindTests s (L.Train t) = trainTests s t
+kindTests s (L.FixedTrain t) = fixedTrainTests s t
+kindTests s (L.Order o) = orderTests (s .above) (s .orders .count) o
+
+-- ---- "There is one reading call per form, and a line of the other form gives 1"
+
+abbrev pub byWindows : Form → Bool
+byWindows Windows = true
+byWindows Timetable = false
+
+abbrev pub ofForm : Form → Line → Bool
+ofForm form (L.Gap g) = byWindows form
+ofForm form (L.Window w) = byWindows form
+ofForm form (L.Train t) = byWindows form
+ofForm form (L.FixedTrain t) = not (byWindows form)
+ofForm form (L.Order o) = true
+
+unfoldable pub lineFault : Form → ℕ → SheetLines → Line → Admission
+unfolding firstFault kindTests
+lineFault form line s l = passed (ofForm form l) (Malformed line) (firstFault line (kindTests s l))
 
 -- ---- after the last line: 5, "a kind is missing", and 7, "K_q differs from n"
 
-unfoldable pub windowsComplete : SheetLines → Bool
-windowsComplete s = leb 1 (s .«gap_count») && leb 1 (s .«window_count») && leb 1 (s .«train_count») && leb 1 (s .orders .count)
-
-unfoldable pub timetableComplete : SheetLines → Bool
-timetableComplete s = leb 1 (s .«train_count») && leb 1 (s .orders .count)
+-- the kinds that only the window form has
+unfoldable pub windowsComplete : Form → SheetLines → Bool
+windowsComplete form s = not (byWindows form) || (leb 1 (s .«gap_count») && leb 1 (s .«window_count»))
 
 unfoldable pub complete : Form → SheetLines → Bool
-unfolding windowsComplete timetableComplete
-complete Windows = windowsComplete
-complete Timetable = timetableComplete
+unfolding windowsComplete
+complete form s = windowsComplete form s && leb 1 (s .«train_count») && leb 1 (s .orders .count)
 
-unfoldable pub endFault : Form → SheetLines → Answer
+unfoldable pub endFault : Form → SheetLines → Admission
 unfolding lastFault complete places
 endFault form s = lastFault (complete form s) (eqb (places (nth (s .capacity)) (s .«train_count»)) (s .orders .count))

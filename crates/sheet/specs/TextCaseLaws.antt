@@ -6,29 +6,37 @@ use Rattle.model.specs.Memory.{timetableSheet}
 use Rattle.sheet.specs.Fields.{runOf}
 use Rattle.sheet.specs.Numbers.{decimalOf, numberAt, numberField}
 use Rattle.sheet.specs.Names.{nameField}
-use Rattle.sheet.specs.Lines.{ended, gapLine, windowLine, trainLine, fixedTrainLine, orderLine}
+use Rattle.sheet.specs.Lines.{twoNumbers, threeNumbers, ended, gapLine, windowLine, trainLine, fixedTrainLine, orderLine}
 use Rattle.sheet.specs.SheetLines.{noLines}
 use Rattle.sheet.specs.Reading.{refused, readFrom}
 use Rattle.sheet.specs.Sheets.{windowReading, timetableReading}
 use Rattle.sheet.specs.OrderNames.{nameIn}
 use Rattle.sheet.specs.TextCases.{bytes, text-a, text-h, Try, tries}
-use Rattle.sheet.specs.declared.Answer.the-variants.{Read, Refused}
-use Rattle.sheet.specs.declared.Form.the-variants.{Windows}
+use Rattle.model.specs.declared.Admission.the-variants.{Granted, Refused}
+use Rattle.model.specs.declared.Form.the-variants.{Windows}
 
 -- the sheet that document 01 prints is the model's case a
-pub a-is-read : windowReading text-a ≡ record { answer = Read; sheet = memory-a }
-unfolding windowReading text-a numberField numberAt runOf decimalOf nameField ended gapLine windowLine trainLine fixedTrainLine orderLine noLines refused
+pub a-is-read : windowReading text-a ≡ record { admission = Granted; sheet = memory-a }
+unfolding windowReading text-a
+    numberField numberAt runOf decimalOf nameField twoNumbers threeNumbers ended
+    gapLine windowLine trainLine fixedTrainLine orderLine noLines refused
 a-is-read = refl
 
 pub h-is-read : timetableSheet (timetableReading text-h .sheet) ≡ case-h
-unfolding timetableReading text-h numberField numberAt runOf decimalOf nameField ended gapLine windowLine trainLine fixedTrainLine orderLine noLines refused
+unfolding timetableReading text-h
+    numberField numberAt runOf decimalOf nameField twoNumbers threeNumbers ended
+    gapLine windowLine trainLine fixedTrainLine orderLine noLines refused
 h-is-read = refl
 
 -- the name of order 2 is one byte, at position 50
 pub name-of-b : nameIn Windows text-a 2 ≡ record { start = 50; long = 1 }
-unfolding nameIn text-a numberField numberAt runOf decimalOf nameField ended gapLine windowLine trainLine fixedTrainLine orderLine noLines refused
+unfolding nameIn text-a
+    numberField numberAt runOf decimalOf nameField twoNumbers threeNumbers ended
+    gapLine windowLine trainLine fixedTrainLine orderLine noLines refused
 name-of-b = refl
 
-pub all-refused : map (λ (t : Try). readFrom (t .form) (bytes (t .text)) 0 .answer) tries ≡ map (λ (t : Try). Refused (t .refusal)) tries
-unfolding readFrom bytes tries numberField numberAt runOf decimalOf nameField ended gapLine windowLine trainLine fixedTrainLine orderLine noLines refused
+pub all-refused : map (λ (t : Try). readFrom (t .form) (bytes (t .text)) 0 .admission) tries ≡ map (λ (t : Try). Refused (t .refusal)) tries
+unfolding readFrom bytes tries
+    numberField numberAt runOf decimalOf nameField twoNumbers threeNumbers ended
+    gapLine windowLine trainLine fixedTrainLine orderLine noLines refused
 all-refused = refl

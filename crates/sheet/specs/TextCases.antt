@@ -5,8 +5,8 @@ use Prim.Native.Char.{code}
 use Prim.Native.String as S
 use Rattle.model.specs.declared.Refusal.{Refusal}
 use Rattle.model.specs.declared.Refusal.the-variants.{Malformed, OutOfRange, KindTooEarly, TooMany, KindMissing, OutOfOrder, PlacesDiffer}
-use Rattle.sheet.specs.declared.Form.{Form}
-use Rattle.sheet.specs.declared.Form.the-variants.{Windows, Timetable}
+use Rattle.model.specs.declared.Form.{Form}
+use Rattle.model.specs.declared.Form.the-variants.{Windows, Timetable}
 
 unfoldable pub bytes : S.String → List ℕ
 bytes S.[] = []

@@ -1,40 +1,44 @@
 // The order of the tests, within a line and after the last one.
-use crate::Answer;
+use crate::LineTests;
+use model::Admission;
 use model::Refusal;
+use model::limits::MOST_TRAINS;
 ghost use mathlib.Core.Path.{_≡_};
 ghost use Prim.Native.Nat.{_≤_, _<_};
 ghost use Rattle.numbers.specs.Counting.{nth};
 ghost use Rattle.model.specs.Sheet.{places};
 ghost use Rattle.sheet.specs.Faults.{firstFault, lastFault};
+ghost use Rattle.model.specs.Limits.{train-counts};
 
-pub fn first_fault(line: usize, late: bool, few: bool, ranged: bool, ordered: bool) -> Answer
-    ensures { λ r. ⌜ r ≡ firstFault line late few ranged ordered ⌝ }
+// The first fault of a line among 3, 4, 2 and 6.
+pub fn first_fault(line: usize, tests: LineTests) -> Admission
+    ensures { λ r. ⌜ r ≡ firstFault line tests ⌝ }
 {
-    if late {
-        if few {
-            if ranged {
-                if ordered {
-                    return Answer::Read;
+    if tests.late_enough {
+        if tests.few {
+            if tests.in_range {
+                if tests.in_order {
+                    return Admission::Granted;
                 }
-                return Answer::Refused(Refusal::OutOfOrder(line));
+                return Admission::Refused(Refusal::OutOfOrder(line));
             }
-            return Answer::Refused(Refusal::OutOfRange(line));
+            return Admission::Refused(Refusal::OutOfRange(line));
         }
-        return Answer::Refused(Refusal::TooMany(line));
+        return Admission::Refused(Refusal::TooMany(line));
     }
-    Answer::Refused(Refusal::KindTooEarly(line))
+    Admission::Refused(Refusal::KindTooEarly(line))
 }
 
-pub fn last_fault(complete: bool, balanced: bool) -> Answer
+pub fn last_fault(complete: bool, balanced: bool) -> Admission
     ensures { λ r. ⌜ r ≡ lastFault complete balanced ⌝ }
 {
     if complete {
         if balanced {
-            return Answer::Read;
+            return Admission::Granted;
         }
-        return Answer::Refused(Refusal::PlacesDiffer);
+        return Admission::Refused(Refusal::PlacesDiffer);
     }
-    Answer::Refused(Refusal::KindMissing)
+    Admission::Refused(Refusal::KindMissing)
 }
 
 fn wide(x: u32) -> usize
@@ -44,8 +48,8 @@ fn wide(x: u32) -> usize
 }
 
 // The places on the first trains together.
-pub fn places_of(capacity: [u32; 32], trains: usize) -> usize
-    requires { ⌜ trains ≤ 32 ⌝ }
+pub fn places_of(capacity: [u32; MOST_TRAINS], trains: usize) -> usize
+    requires { ⌜ trains ≤ train-counts .most ⌝ }
     ensures { λ r. ⌜ r ≡ places (nth capacity) trains ⌝ }
 {
     let mut sum: usize = 0;

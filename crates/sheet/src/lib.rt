@@ -4,23 +4,28 @@ mod fields;
 mod line_tests;
 mod lines;
 mod more_lines;
+pub mod names;
 mod order_lines;
 mod sheets;
 mod text_reader;
 mod walk;
 
+use model::Admission;
+use model::Form;
 use model::Refusal;
+use model::Sheet;
 use model::TimetableSheet;
 use model::WindowSheet;
+use model::borders::to_timetable;
+use model::borders::to_windows;
+use model::limits::MOST_ORDERS;
+use model::limits::MOST_TRAINS;
+use model::limits::MOST_WINDOWS;
 ghost use mathlib.Core.Path.{_≡_};
-ghost use Rattle.sheet.specs.Sheets.{windowReading, timetableReading};
+ghost use Rattle.model.specs.Memory.{sheetOf, windowSheet, timetableSheet};
+ghost use Rattle.sheet.specs.Sheets.{reading, windowReading, timetableReading};
+ghost use Rattle.sheet.specs.ReadingCall.{ReadingCall};
 ghost use Rattle.sheet.specs.OrderNames.{IsPart, nameIn, namesIn, placeOf};
-
-// The two forms of a sheet. The contracts of the naming calls name it.
-pub enum Form {
-    Windows,
-    Timetable,
-}
 
 // The bytes that a field is made of.
 enum Alphabet {
@@ -32,6 +37,18 @@ enum Alphabet {
 enum Field {
     Number(u32, usize),
     Other,
+}
+
+// Two number fields: their values and the position after them, or refusal 1.
+enum TwoNumbers {
+    Read(u32, u32, usize),
+    Refused(Refusal),
+}
+
+// Three of them.
+enum ThreeNumbers {
+    Read(u32, u32, u32, usize),
+    Refused(Refusal),
 }
 
 // A name field: where the name starts and how long it is.
@@ -87,21 +104,29 @@ enum LineAt {
     Refused(Refusal),
 }
 
-// What is read of a text, or of a line, is good, or is refused.
-pub enum Answer {
-    Read,
-    Refused(Refusal),
+// The tests of a line after those above it, each true where it passes: 3, 4, 2 and 6 of document 01's table.
+struct LineTests {
+    late_enough: bool,
+    few: bool,
+    in_range: bool,
+    in_order: bool,
 }
 
-// What reading a text of the window form gives: the sheet, or the refusal beside the empty sheet.
+// What reading a text gives: what the tests say of it, and the sheet; beside a refusal the empty sheet.
+pub struct Reading {
+    pub admission: Admission,
+    pub sheet: Sheet,
+}
+
+// The same with the struct of the window form.
 pub struct WindowReading {
-    pub answer: Answer,
+    pub admission: Admission,
     pub sheet: WindowSheet,
 }
 
-// The same for the timetable form.
+// The same with the struct of the timetable form.
 pub struct TimetableReading {
-    pub answer: Answer,
+    pub admission: Admission,
     pub sheet: TimetableSheet,
 }
 
@@ -115,18 +140,18 @@ pub struct NamePlace {
 // Where the names of a text's orders start, and how many bytes they have: the first `count` elements of each column.
 pub struct NamePlaces {
     pub count: usize,
-    pub start: [usize; 200],
-    pub length: [usize; 200],
+    pub start: [usize; MOST_ORDERS],
+    pub length: [usize; MOST_ORDERS],
 }
 
 // The O lines so far, in columns; each order's name by its place in the text.
 struct Orders {
     count: usize,
-    release: [u32; 200],
-    due: [u32; 200],
-    weight: [u32; 200],
-    name_start: [usize; 200],
-    name_length: [usize; 200],
+    release: [u32; MOST_ORDERS],
+    due: [u32; MOST_ORDERS],
+    weight: [u32; MOST_ORDERS],
+    name_start: [usize; MOST_ORDERS],
+    name_length: [usize; MOST_ORDERS],
 }
 
 // The lines of a sheet so far, in columns. `above` is the kind of the line above: 0 none, 1 G, 2 W, 3 T or X, 4 O.
@@ -135,19 +160,19 @@ struct SheetLines {
     gap_count: usize,
     gap: u32,
     window_count: usize,
-    window_from: [u32; 64],
-    window_to: [u32; 64],
+    window_from: [u32; MOST_WINDOWS],
+    window_to: [u32; MOST_WINDOWS],
     train_count: usize,
-    capacity: [u32; 32],
-    running: [u32; 32],
-    departure: [u32; 32],
-    arrival: [u32; 32],
+    capacity: [u32; MOST_TRAINS],
+    running: [u32; MOST_TRAINS],
+    departure: [u32; MOST_TRAINS],
+    arrival: [u32; MOST_TRAINS],
     orders: Orders,
 }
 
 // All lines of a text; none where it is refused.
 struct SheetText {
-    answer: Answer,
+    admission: Admission,
     lines: SheetLines,
 }
 
@@ -157,31 +182,42 @@ struct Reader<'a> {
     at: usize,
 }
 
-// A text of the window form, as a sheet in memory. The text is only read.
-pub fn read_windows(text: &[u8]) -> WindowReading
-    ensures { λ r. ⌜ r ≡ windowReading (now (text .entry)) ⌝ }
+// A text of either form, as a sheet in memory. The text is only read.
+pub fn read(text: &[u8], form: Form) -> Reading
+    ensures { λ r. ⌜ ReadingCall (now (text .entry)) (reading form (now (text .entry))) r (r .admission) (sheetOf (r .sheet)) ⌝ }
 {
-    let found = text_reader::whole(text, Form::Windows);
-    let answer = found.answer;
+    let found = text_reader::whole(text, form);
+    let admission = found.admission;
     let lines = found.lines;
-    let sheet = sheets::window_sheet(lines);
+    let sheet = sheets::sheet_from(form, lines);
+    Reading { admission, sheet }
+}
+
+// A text of the window form, for callers from outside.
+pub fn read_windows(text: &[u8]) -> WindowReading
+    ensures { λ r. ⌜ ReadingCall (now (text .entry)) (windowReading (now (text .entry))) r (r .admission) (windowSheet (r .sheet)) ⌝ }
+{
+    let found = read(text, Form::Windows);
+    let admission = found.admission;
+    let sheet = found.sheet;
+    let windows = to_windows(sheet);
     WindowReading {
-        answer: answer,
-        sheet: sheet,
+        admission,
+        sheet: windows,
     }
 }
 
-// A text of the timetable form, as a sheet in memory.
+// The same for the timetable form.
 pub fn read_timetable(text: &[u8]) -> TimetableReading
-    ensures { λ r. ⌜ r ≡ timetableReading (now (text .entry)) ⌝ }
+    ensures { λ r. ⌜ ReadingCall (now (text .entry)) (timetableReading (now (text .entry))) r (r .admission) (timetableSheet (r .sheet)) ⌝ }
 {
-    let found = text_reader::whole(text, Form::Timetable);
-    let answer = found.answer;
-    let lines = found.lines;
-    let sheet = sheets::timetable_sheet(lines);
+    let found = read(text, Form::Timetable);
+    let admission = found.admission;
+    let sheet = found.sheet;
+    let timetable = to_timetable(sheet);
     TimetableReading {
-        answer: answer,
-        sheet: sheet,
+        admission,
+        sheet: timetable,
     }
 }
 
@@ -202,10 +238,8 @@ pub fn order_name_in_timetable(text: &[u8], order: usize) -> &[u8]
 fn order_name(text: &[u8], order: usize, form: Form) -> &[u8]
     ensures { λ r. ⌜ IsPart (text .entry) r (nameIn form (now (text .entry)) order) ⌝ }
 {
-    let found = text_reader::whole(text, form);
-    let lines = found.lines;
-    let orders = lines.orders;
-    order_lines::name_part(text, orders, order)
+    let names = name_places(text, form);
+    names::name_part(text, names, order)
 }
 
 // Where that name stands in the text, for a caller that cannot be handed a part of it. The window form.
@@ -225,10 +259,8 @@ pub fn name_place_in_timetable(text: &[u8], order: usize) -> NamePlace
 fn order_name_place(text: &[u8], order: usize, form: Form) -> NamePlace
     ensures { λ r. ⌜ r ≡ placeOf (nameIn form (now (text .entry)) order) ⌝ }
 {
-    let found = text_reader::whole(text, form);
-    let lines = found.lines;
-    let orders = lines.orders;
-    order_lines::name_place(orders, order)
+    let names = name_places(text, form);
+    names::name_place(names, order)
 }
 
 // Where all names stand, for a caller that wants every one: the text is read once.
@@ -242,7 +274,7 @@ pub fn name_places(text: &[u8], form: Form) -> NamePlaces
     let length = orders.name_length;
     NamePlaces {
         count: orders.count,
-        start: start,
-        length: length,
+        start,
+        length,
     }
 }

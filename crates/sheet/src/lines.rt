@@ -6,7 +6,9 @@ use crate::Line;
 use crate::LineAt;
 use crate::NameField;
 use crate::Order;
+use crate::ThreeNumbers;
 use crate::Train;
+use crate::TwoNumbers;
 use crate::Window;
 use crate::fields::byte_at;
 use crate::fields::name_field;
@@ -15,7 +17,7 @@ use model::Refusal;
 ghost use mathlib.Core.Path.{_≡_};
 ghost use Prim.Native.Nat.{_<_};
 ghost use lib.ListN.{length};
-ghost use Rattle.sheet.specs.Lines.{ended, gapLine, windowLine, trainLine, fixedTrainLine, orderLine, lineAt};
+ghost use Rattle.sheet.specs.Lines.{ended, twoNumbers, threeNumbers, gapLine, windowLine, trainLine, fixedTrainLine, orderLine, lineAt};
 
 // A line whose last field ends before this position.
 fn line_end(text: &[u8], p: usize, line: usize, read: Line) -> LineAt
@@ -36,65 +38,74 @@ fn gap_line(text: &[u8], p: usize, line: usize) -> LineAt
     line_end(text, next, line, Line::Gap(Gap { gap: gap }))
 }
 
+fn two_numbers(text: &[u8], p: usize, line: usize) -> TwoNumbers
+    ensures { λ r. ⌜ r ≡ twoNumbers (now (text .entry)) p line ⌝ }
+{
+    let Field::Number(first, second) = number_field(text, p) else {
+        return TwoNumbers::Refused(Refusal::Malformed(line));
+    };
+    let Field::Number(last, next) = number_field(text, second) else {
+        return TwoNumbers::Refused(Refusal::Malformed(line));
+    };
+    TwoNumbers::Read(first, last, next)
+}
+
+fn three_numbers(text: &[u8], p: usize, line: usize) -> ThreeNumbers
+    ensures { λ r. ⌜ r ≡ threeNumbers (now (text .entry)) p line ⌝ }
+{
+    let Field::Number(first, second) = number_field(text, p) else {
+        return ThreeNumbers::Refused(Refusal::Malformed(line));
+    };
+    match two_numbers(text, second, line) {
+        TwoNumbers::Refused(refusal) => ThreeNumbers::Refused(refusal),
+        TwoNumbers::Read(middle, last, next) => ThreeNumbers::Read(first, middle, last, next),
+    }
+}
+
 fn window_line(text: &[u8], p: usize, line: usize) -> LineAt
     ensures { λ r. ⌜ r ≡ windowLine (now (text .entry)) p line ⌝ }
 {
-    let Field::Number(from, second) = number_field(text, p) else {
-        return LineAt::Refused(Refusal::Malformed(line));
-    };
-    let Field::Number(to, next) = number_field(text, second) else {
-        return LineAt::Refused(Refusal::Malformed(line));
-    };
-    line_end(
-        text,
-        next,
-        line,
-        Line::Window(Window { from: from, to: to }),
-    )
+    match two_numbers(text, p, line) {
+        TwoNumbers::Refused(refusal) => LineAt::Refused(refusal),
+        TwoNumbers::Read(from, to, next) => line_end(
+            text,
+            next,
+            line,
+            Line::Window(Window { from: from, to: to }),
+        ),
+    }
 }
 
 fn train_line(text: &[u8], p: usize, line: usize) -> LineAt
     ensures { λ r. ⌜ r ≡ trainLine (now (text .entry)) p line ⌝ }
 {
-    let Field::Number(capacity, second) = number_field(text, p) else {
-        return LineAt::Refused(Refusal::Malformed(line));
-    };
-    let Field::Number(running, next) = number_field(text, second) else {
-        return LineAt::Refused(Refusal::Malformed(line));
-    };
-    line_end(
-        text,
-        next,
-        line,
-        Line::Train(Train {
-            capacity: capacity,
-            running: running,
-        }),
-    )
+    match two_numbers(text, p, line) {
+        TwoNumbers::Refused(refusal) => LineAt::Refused(refusal),
+        TwoNumbers::Read(capacity, running, next) => line_end(
+            text,
+            next,
+            line,
+            Line::Train(Train { capacity, running }),
+        ),
+    }
 }
 
 fn fixed_train_line(text: &[u8], p: usize, line: usize) -> LineAt
     ensures { λ r. ⌜ r ≡ fixedTrainLine (now (text .entry)) p line ⌝ }
 {
-    let Field::Number(capacity, second) = number_field(text, p) else {
-        return LineAt::Refused(Refusal::Malformed(line));
-    };
-    let Field::Number(departure, third) = number_field(text, second) else {
-        return LineAt::Refused(Refusal::Malformed(line));
-    };
-    let Field::Number(arrival, next) = number_field(text, third) else {
-        return LineAt::Refused(Refusal::Malformed(line));
-    };
-    line_end(
-        text,
-        next,
-        line,
-        Line::FixedTrain(FixedTrain {
-            capacity: capacity,
-            departure: departure,
-            arrival: arrival,
-        }),
-    )
+    match three_numbers(text, p, line) {
+        ThreeNumbers::Refused(refusal) => LineAt::Refused(refusal),
+        ThreeNumbers::Read(capacity, departure, arrival, next) => line_end(
+            text,
+            next,
+            line,
+            Line::FixedTrain(FixedTrain {
+                capacity,
+                departure,
+                arrival,
+            }),
+        ),
+    }
 }
 
 fn order_line(text: &[u8], p: usize, line: usize) -> LineAt
@@ -103,27 +114,21 @@ fn order_line(text: &[u8], p: usize, line: usize) -> LineAt
     let NameField::Name(start, length) = name_field(text, p) else {
         return LineAt::Refused(Refusal::Malformed(line));
     };
-    let Field::Number(release, third) = number_field(text, start + length) else {
-        return LineAt::Refused(Refusal::Malformed(line));
-    };
-    let Field::Number(due, fourth) = number_field(text, third) else {
-        return LineAt::Refused(Refusal::Malformed(line));
-    };
-    let Field::Number(weight, next) = number_field(text, fourth) else {
-        return LineAt::Refused(Refusal::Malformed(line));
-    };
-    line_end(
-        text,
-        next,
-        line,
-        Line::Order(Order {
-            name_start: start,
-            name_length: length,
-            release: release,
-            due: due,
-            weight: weight,
-        }),
-    )
+    match three_numbers(text, start + length, line) {
+        ThreeNumbers::Refused(refusal) => LineAt::Refused(refusal),
+        ThreeNumbers::Read(release, due, weight, next) => line_end(
+            text,
+            next,
+            line,
+            Line::Order(Order {
+                name_start: start,
+                name_length: length,
+                release,
+                due,
+                weight,
+            }),
+        ),
+    }
 }
 
 pub fn line_at(text: &[u8], p: usize, line: usize) -> LineAt

@@ -8,9 +8,12 @@ use crate::Train;
 use crate::Window;
 use crate::order_lines::no_orders;
 use crate::order_lines::with_order;
+use model::limits::MOST_TRAINS;
+use model::limits::MOST_WINDOWS;
 ghost use mathlib.Core.Path.{_≡_};
 ghost use Prim.Native.Nat.{_<_};
-ghost use Rattle.sheet.specs.SheetLines.{Room, noLines, withGap, withWindow, withTrain, withFixedTrain, withOrderLine, withLine};
+ghost use Rattle.sheet.specs.SheetLines.{OneMore, noLines, withGap, withWindow, withTrain, withFixedTrain, withOrderLine, withLine};
+ghost use Rattle.model.specs.Limits.{order-counts, window-counts, train-counts};
 
 pub fn no_lines() -> SheetLines
     ensures { λ r. ⌜ r ≡ noLines ⌝ }
@@ -21,14 +24,14 @@ pub fn no_lines() -> SheetLines
         gap_count: 0,
         gap: 0,
         window_count: 0,
-        window_from: [0; 64],
-        window_to: [0; 64],
+        window_from: [0; MOST_WINDOWS],
+        window_to: [0; MOST_WINDOWS],
         train_count: 0,
-        capacity: [0; 32],
-        running: [0; 32],
-        departure: [0; 32],
-        arrival: [0; 32],
-        orders: orders,
+        capacity: [0; MOST_TRAINS],
+        running: [0; MOST_TRAINS],
+        departure: [0; MOST_TRAINS],
+        arrival: [0; MOST_TRAINS],
+        orders,
     }
 }
 
@@ -44,7 +47,7 @@ fn with_gap(lines: SheetLines, g: Gap) -> SheetLines
 }
 
 fn with_window(lines: SheetLines, w: Window) -> SheetLines
-    requires { ⌜ lines .«window_count» < 64 ⌝ }
+    requires { ⌜ lines .«window_count» < window-counts .most ⌝ }
     ensures { λ r. ⌜ r ≡ withWindow lines w ⌝ }
 {
     let mut next = lines;
@@ -57,7 +60,7 @@ fn with_window(lines: SheetLines, w: Window) -> SheetLines
 }
 
 fn with_train(lines: SheetLines, t: Train) -> SheetLines
-    requires { ⌜ lines .«train_count» < 32 ⌝ }
+    requires { ⌜ lines .«train_count» < train-counts .most ⌝ }
     ensures { λ r. ⌜ r ≡ withTrain lines t ⌝ }
 {
     let mut next = lines;
@@ -70,7 +73,7 @@ fn with_train(lines: SheetLines, t: Train) -> SheetLines
 }
 
 fn with_fixed_train(lines: SheetLines, t: FixedTrain) -> SheetLines
-    requires { ⌜ lines .«train_count» < 32 ⌝ }
+    requires { ⌜ lines .«train_count» < train-counts .most ⌝ }
     ensures { λ r. ⌜ r ≡ withFixedTrain lines t ⌝ }
 {
     let mut next = lines;
@@ -84,7 +87,7 @@ fn with_fixed_train(lines: SheetLines, t: FixedTrain) -> SheetLines
 }
 
 fn with_order_line(lines: SheetLines, o: Order) -> SheetLines
-    requires { ⌜ lines .orders .count < 200 ⌝ }
+    requires { ⌜ lines .orders .count < order-counts .most ⌝ }
     ensures { λ r. ⌜ r ≡ withOrderLine lines o ⌝ }
 {
     let orders = lines.orders;
@@ -96,7 +99,7 @@ fn with_order_line(lines: SheetLines, o: Order) -> SheetLines
 }
 
 pub fn with_line(lines: SheetLines, read: Line) -> SheetLines
-    requires { ⌜ Room lines read ⌝ }
+    requires { ⌜ OneMore lines read ⌝ }
     ensures { λ r. ⌜ r ≡ withLine lines read ⌝ }
 {
     match read {

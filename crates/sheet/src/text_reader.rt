@@ -1,8 +1,8 @@
 // A reader over the caller's text and its position in it. It is taken apart for a function that has the text and the position.
-use crate::Form;
 use crate::Reader;
 use crate::SheetText;
 use crate::walk::lines_from;
+use model::Form;
 ghost use mathlib.Core.Path.{_≡_};
 ghost use Rattle.sheet.specs.Reading.{readFrom};
 

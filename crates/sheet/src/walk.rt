@@ -1,58 +1,51 @@
 // The lines of a text, one by one, and what they say together.
-use crate::Answer;
-use crate::Form;
 use crate::LineAt;
 use crate::SheetLines;
 use crate::SheetText;
 use crate::faults::last_fault;
 use crate::faults::places_of;
+use crate::line_tests::by_windows;
 use crate::line_tests::line_fault;
 use crate::lines::line_at;
 use crate::more_lines::no_lines;
 use crate::more_lines::with_line;
+use model::Admission;
+use model::Form;
 use model::Refusal;
 ghost use mathlib.Core.Path.{_≡_};
 ghost use Prim.Native.Nat.{_≤_};
-ghost use Rattle.sheet.specs.Tests.{windowsComplete, timetableComplete, complete, endFault};
-ghost use Rattle.sheet.specs.Reading.{taken, refused, onAnswer, readFrom};
+ghost use Rattle.sheet.specs.Tests.{windowsComplete, complete, endFault};
+ghost use Rattle.sheet.specs.Reading.{taken, refused, onAdmission, readFrom};
+ghost use Rattle.model.specs.Limits.{train-counts};
 
-fn windows_complete(lines: SheetLines) -> bool
-    ensures { λ r. ⌜ r ≡ windowsComplete lines ⌝ }
+// The kinds that only the window form has are there.
+fn windows_complete(form: Form, lines: SheetLines) -> bool
+    ensures { λ r. ⌜ r ≡ windowsComplete form lines ⌝ }
 {
-    if lines.gap_count < 1 {
-        return false;
+    if by_windows(form) {
+        if lines.gap_count < 1 {
+            return false;
+        }
+        return 1 <= lines.window_count;
     }
-    if lines.window_count < 1 {
-        return false;
-    }
-    if lines.train_count < 1 {
-        return false;
-    }
-    let orders = lines.orders;
-    1 <= orders.count
-}
-
-fn timetable_complete(lines: SheetLines) -> bool
-    ensures { λ r. ⌜ r ≡ timetableComplete lines ⌝ }
-{
-    if lines.train_count < 1 {
-        return false;
-    }
-    let orders = lines.orders;
-    1 <= orders.count
+    true
 }
 
 fn is_complete(form: Form, lines: SheetLines) -> bool
     ensures { λ r. ⌜ r ≡ complete form lines ⌝ }
 {
-    match form {
-        Form::Windows => windows_complete(lines),
-        Form::Timetable => timetable_complete(lines),
+    if windows_complete(form, lines) {
+        if lines.train_count < 1 {
+            return false;
+        }
+        let orders = lines.orders;
+        return 1 <= orders.count;
     }
+    false
 }
 
-fn end_fault(form: Form, lines: SheetLines) -> Answer
-    requires { ⌜ lines .«train_count» ≤ 32 ⌝ }
+fn end_fault(form: Form, lines: SheetLines) -> Admission
+    requires { ⌜ lines .«train_count» ≤ train-counts .most ⌝ }
     ensures { λ r. ⌜ r ≡ endFault form lines ⌝ }
 {
     let capacity = lines.capacity;
@@ -66,21 +59,21 @@ fn refused_text(refusal: Refusal) -> SheetText
 {
     let lines = no_lines();
     SheetText {
-        answer: Answer::Refused(refusal),
-        lines: lines,
+        admission: Admission::Refused(refusal),
+        lines,
     }
 }
 
 // What the lines say once the last one is read.
 fn ended_text(form: Form, lines: SheetLines) -> SheetText
-    requires { ⌜ lines .«train_count» ≤ 32 ⌝ }
-    ensures { λ r. ⌜ r ≡ onAnswer (endFault form lines) (taken lines) ⌝ }
+    requires { ⌜ lines .«train_count» ≤ train-counts .most ⌝ }
+    ensures { λ r. ⌜ r ≡ onAdmission (endFault form lines) (taken lines) ⌝ }
 {
     match end_fault(form, lines) {
-        Answer::Refused(refusal) => refused_text(refusal),
-        Answer::Read => SheetText {
-            answer: Answer::Read,
-            lines: lines,
+        Admission::Refused(refusal) => refused_text(refusal),
+        Admission::Granted => SheetText {
+            admission: Admission::Granted,
+            lines,
         },
     }
 }
@@ -98,7 +91,7 @@ pub fn lines_from(text: &[u8], start: usize, form: Form) -> SheetText
                 return refused_text(refusal);
             }
             LineAt::Read(read, next) => {
-                if let Answer::Refused(refusal) = line_fault(form, line, lines, read) {
+                if let Admission::Refused(refusal) = line_fault(form, line, lines, read) {
                     return refused_text(refusal);
                 }
                 lines = with_line(lines, read);

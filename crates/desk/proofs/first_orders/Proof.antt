@@ -8,32 +8,15 @@ use borrow.Author.Needs.{needs}
 use Rattle.desk.proofs.first_orders.Statement.{statement}
 use Rattle.desk.proofs.first_orders.Tie as tie
 
-returns : tie.Need-returns
-returns c =
-    let a = c .before .args in
-    sym (take-all (a .orders) (a .trains .now) (omega arith))
-
-sub-result : tie.Need-sub-result
-sub-result c = search needs
-
-part-result-start : tie.Need-part-result-start
-part-result-start c = search needs
-
-part-result-end : tie.Need-part-result-end
-part-result-end c = search needs
-
 returns-2 : tie.Need-returns-2
 returns-2 c =
     let a = c .before .before .args in
-    let e : (a .orders) - 0 ≡ (a .orders) = omega arith in
+    let e : a .orders - 0 ≡ a .orders = omega arith in
     ap (λ (n : ℕ). take n (a .trains .now)) e
 
 pub first-orders-spec : {M : Type 1} → statement M
 first-orders-spec =
     tie.close
     (tie.spec
-    returns
-    sub-result
-    part-result-start
-    part-result-end
-    returns-2)
+    (λ c. let a = c .before .args in sym (take-all (a .orders) (a .trains .now) (omega arith))) (λ c. search needs) (λ c. search needs)
+    (λ c. search needs) returns-2)

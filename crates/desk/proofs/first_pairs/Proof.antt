@@ -8,36 +8,15 @@ use borrow.Author.Needs.{needs}
 use Rattle.desk.proofs.first_pairs.Statement.{statement}
 use Rattle.desk.proofs.first_pairs.Tie as tie
 
-returns : tie.Need-returns
-returns c =
-    let a = c .before .args in
-    sym (take-all (2 * a .count) (a .pairs .now) (omega arith))
-
-mul-end : tie.Need-mul-end
-mul-end c = search needs
-
-sub-result : tie.Need-sub-result
-sub-result c = search needs
-
-part-result-start : tie.Need-part-result-start
-part-result-start c = search needs
-
-part-result-end : tie.Need-part-result-end
-part-result-end c = search needs
-
 returns-2 : tie.Need-returns-2
 returns-2 c =
     let a = c .before .before .args in
-    let e : (2 * a .count) - 0 ≡ (2 * a .count) = omega arith in
+    let e : 2 * a .count - 0 ≡ 2 * a .count = omega arith in
     ap (λ (n : ℕ). take n (a .pairs .now)) e
 
 pub first-pairs-spec : {M : Type 1} → statement M
 first-pairs-spec =
     tie.close
     (tie.spec
-    returns
-    mul-end
-    sub-result
-    part-result-start
-    part-result-end
-    returns-2)
+    (λ c. let a = c .before .args in sym (take-all (2 * a .count) (a .pairs .now) (omega arith))) (λ c. search needs) (λ c. search needs)
+    (λ c. search needs) (λ c. search needs) returns-2)

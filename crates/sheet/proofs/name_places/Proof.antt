@@ -6,9 +6,6 @@ use Rattle.sheet.specs.declared.SheetText.{SheetText}
 use Rattle.sheet.proofs.name_places.Statement.{statement}
 use Rattle.sheet.proofs.name_places.Tie as tie
 
-whole-requires : tie.Need-whole-requires
-whole-requires c κs = search needs
-
 returns : tie.Need-returns
 unfolding namesIn
 returns c =
@@ -16,4 +13,4 @@ returns c =
     (c .before .before .before .before .whole .ensures)
 
 pub name-places-spec : {M : Type 1} → statement M
-name-places-spec = tie.close (tie.spec whole-requires returns)
+name-places-spec = tie.close (tie.spec (λ c κs. search needs) returns)

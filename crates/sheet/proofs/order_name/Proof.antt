@@ -1,22 +1,20 @@
--- `order_name` meets its contract: the names of the lines lie in the text. Assumes nothing.
-use Rattle.sheet.specs.OrderNames.{nameIn}
-use Rattle.sheet.specs.TextLaws.{orders-good, text-good}
+-- `order_name` meets its contract: the names of a text lie in it. Assumes nothing.
+use mathlib.Core.Path.{subst}
+use Rattle.sheet.specs.OrderNames.{IsPart, nameAt, nameIn}
+use Rattle.sheet.specs.NameLaws.{names-lie}
+use Rattle.sheet.specs.declared.NamePlaces.{NamePlaces}
 use borrow.Author.Needs.{needs}
 use Rattle.sheet.proofs.order_name.Statement.{statement}
 use Rattle.sheet.proofs.order_name.Tie as tie
 
-whole-requires : tie.Need-whole-requires
-whole-requires c κs = search needs
-
 name-part-requires : tie.Need-name-part-requires
-name-part-requires c κs =
-    let a = c .before .before .before .before .args in
-    let good = text-good (a .form) (a .text .now) 0 .lines in
-    rw (c .before .before .whole .ensures) (orders-good (a .form) _ (good .0) .few, good .1)
+name-part-requires c κs = let a = c .before .before .args in rw (c .name-places .ensures) (names-lie (a .form) (a .text .now))
 
 returns : tie.Need-returns
 unfolding nameIn
-returns c = rw (← c .before .before .before .whole .ensures) (c .name-part .ensures)
+returns c =
+    let a = c .before .before .before .args in
+    subst (λ (p : NamePlaces). IsPart (a .text) (c .name-part .result) (nameAt p (a .order))) (c .before .name-places .ensures) (c .name-part .ensures)
 
 pub order-name-spec : {M : Type 1} → statement M
-order-name-spec = tie.close (tie.spec whole-requires name-part-requires returns)
+order-name-spec = tie.close (tie.spec (λ c κs. search needs) name-part-requires returns)

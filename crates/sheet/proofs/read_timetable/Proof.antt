@@ -1,18 +1,13 @@
--- `read_timetable` meets its contract: the lines' answer, beside the sheet that they make. Assumes nothing.
+-- `read_timetable` meets its contract: it hands over the reading of its form. Assumes nothing.
 use Rattle.sheet.specs.Sheets.{timetableReading}
+use Rattle.sheet.specs.ReadingCallLaws.{reads-timetable}
 use borrow.Author.Needs.{needs}
 use Rattle.sheet.proofs.read_timetable.Statement.{statement}
 use Rattle.sheet.proofs.read_timetable.Tie as tie
 
-whole-requires : tie.Need-whole-requires
-whole-requires c κs = search needs
-
-timetable-sheet-requires : tie.Need-timetable-sheet-requires
-timetable-sheet-requires c κs = search needs
-
 returns : tie.Need-returns
 unfolding timetableReading
-returns c = rw (c .timetable-sheet .ensures, c .before .before .whole .ensures)
+returns c = reads-timetable (c .before .before .before .before .args .text .now) _ (rw (c .to-timetable .ensures, c .before .before .read .ensures .equal))
 
 pub read-timetable-spec : {M : Type 1} → statement M
-read-timetable-spec = tie.close (tie.spec whole-requires timetable-sheet-requires returns)
+read-timetable-spec = tie.close (tie.spec (λ c κs. search needs) (λ c κs. search needs) returns)

@@ -1,22 +1,17 @@
--- `times_in_order` is the test 6 of fixed departures and arrivals, since the calls give its parts. Assumes nothing.
+-- `tests::times_in_order` meets its contract: the calls give the tests of its columns. Assumes nothing.
 use borrow.Author.Needs.{needs}
-use Rattle.admission.specs.ColumnTests.{timesInOrder}
+use Rattle.admission.specs.ColumnTestLaws.{times-order}
 use Rattle.admission.proofs.tests.times_in_order.Statement.{statement}
 use Rattle.admission.proofs.tests.times_in_order.Tie as tie
 
-all-below-requires : tie.Need-all-below-requires
-all-below-requires c κs = search needs
+abbrev two-back : tie.After-all-apart3 → tie.After-all-apart
+two-back c = c .before .before .before .before .before .before .before .before .before .before .before .before
 
-all-rising-requires : tie.Need-all-rising-requires
-all-rising-requires c κs = search needs
-
-all-rising-requires-2 : tie.Need-all-rising-requires-2
-all-rising-requires-2 c κs = search needs
-
-returns : tie.Need-returns
-unfolding timesInOrder
-returns c = cc
+abbrev entry : tie.After-all-apart3 → tie.Start
+entry c = two-back c .before .before .before .before .before .before
 
 pub times-in-order-spec : {M : Type 1} → statement M
 times-in-order-spec =
-    tie.close (tie.spec all-below-requires all-rising-requires all-rising-requires-2 returns)
+    tie.close
+    (tie.spec
+    (λ c κs. search needs) (λ c κs. search needs) (λ c κs. search needs) (λ c. (cc (times-order (entry c .args .t1)))))

@@ -1,22 +1,14 @@
--- `windows_in_range` is the test 2 of the gap, the windows and the running times, since the calls give its parts. Assumes nothing.
+-- `tests::windows_in_range` meets its contract: the calls give the tests of its columns. Assumes nothing.
 use borrow.Author.Needs.{needs}
-use Rattle.admission.specs.ColumnTests.{windowsInRange}
+use Rattle.admission.specs.ColumnTestLaws.{windows-range}
 use Rattle.admission.proofs.tests.windows_in_range.Statement.{statement}
 use Rattle.admission.proofs.tests.windows_in_range.Tie as tie
 
-all-inside-requires : tie.Need-all-inside-requires
-all-inside-requires c κs = search needs
-
-all-inside-requires-2 : tie.Need-all-inside-requires-2
-all-inside-requires-2 c κs = search needs
-
-all-inside-requires-3 : tie.Need-all-inside-requires-3
-all-inside-requires-3 c κs = search needs
-
-returns : tie.Need-returns
-unfolding windowsInRange
-returns c = cc
+abbrev entry : tie.After-all-inside3 → tie.Start
+entry c = c .before .before .before .before .before .before .before .before .before .before .before .before
 
 pub windows-in-range-spec : {M : Type 1} → statement M
 windows-in-range-spec =
-    tie.close (tie.spec all-inside-requires all-inside-requires-2 all-inside-requires-3 returns)
+    tie.close
+    (tie.spec
+    (λ c κs. search needs) (λ c κs. search needs) (λ c κs. search needs) (λ c. (cc (windows-range (entry c .args .t1)))))

@@ -1,11 +1,8 @@
 -- `fields::put_decimal` meets its contract: by recursion on the number without its last digit, which falls. Assumes nothing.
-use mathlib.Core.List.{[], _∷_}
-use Rattle.printer.specs.Writing.{state}
 use Rattle.printer.specs.WritingLaws.{pass-more}
-use Rattle.printer.specs.Decimal.{digit, decimal}
 use Rattle.printer.specs.DecimalLaws.{decimal-one, decimal-more}
 use borrow.Author.Needs.{needs}
-use Prim.Native.Nat.{ℕ, _<_, _/_, _%_}
+use Prim.Native.Nat.{ℕ, _<_}
 use borrow.Fn.Kinds.{In}
 use borrow.Fn.PlainCycle.{Measures, is, falls, and}
 use Rattle.printer.proofs.fields.put_decimal.Reads as put-decimal
@@ -99,8 +96,9 @@ put-decimal-returns-2 : (t : ℕ) → put-decimal-lts.Need-returns-2 (
   put-decimal.Post,
 ) (put-decimal-at t) put-decimal.Post
 put-decimal-returns-2 t c =
-    let a = c .before .before .before .before .before .before .before .before .before .before .args in
-    pass-more (a .writing) (decimal (a .n / 10)) (digit (a .n % 10) ∷ []) (state (a .place) (a .out .now)) (decimal-more (a .n) (c .before .before .before .before .before .before .before .before .if1 .left)) (c .before .before .before .before .before .before .put-decimal .ensures) (c .before .before .put2 .ensures)
+    let rest = c .before .before .before .before .before .before in
+    let test = rest .before .before in
+    pass-more _ _ _ _ (decimal-more (test .before .before .args .n) (test .if1 .left)) (rest .put-decimal .ensures) (c .before .before .put2 .ensures)
 
 pub +put-decimal-spec : {M : Type 1} → statement M
 +put-decimal-spec = close μ-put-decimal λ t. put-decimal-lts.spec (

@@ -6,12 +6,6 @@ use borrow.Author.Needs.{needs}
 use Rattle.printer.proofs.fields.put.Statement.{statement}
 use Rattle.printer.proofs.fields.put.Tie as tie
 
-enum-known-place : tie.Need-enum-known-place
-enum-known-place c = search needs
-
-enum-told : tie.Need-enum-told
-enum-told c = search needs
-
 returns : tie.Need-returns
 returns c =
     let a = c .before .before .args in
@@ -23,23 +17,11 @@ returns-2 c =
     let p = c .before .before .place .given in
     rw (p .1) (sym (put-short (a .writing) (a .byte) (p .0 .0) (a .out .now) (omega arith)))
 
-slice-write-out : tie.Need-slice-write-out
-slice-write-out c = search needs
-
-add-t9 : tie.Need-add-t9
-add-t9 c = search needs
-
-same-length : tie.Need-same-length
-same-length c = search needs
-
 returns-3 : tie.Need-returns-3
 returns-3 c =
     let a = c .before .before .before .before .before .args in
     let p = c .before .before .before .place .given in
     rw (c .if2 .taken, p .1) (sym (put-written (a .byte) (p .0 .0) (a .out .now) (omega arith)))
-
-add-t6 : tie.Need-add-t6
-add-t6 c = search needs
 
 returns-4 : tie.Need-returns-4
 returns-4 c =
@@ -51,13 +33,5 @@ pub put-spec : {M : Type 1} → statement M
 put-spec =
     tie.close
     (tie.spec
-    enum-known-place
-    enum-told
-    returns
-    returns-2
-    slice-write-out
-    add-t9
-    same-length
-    returns-3
-    add-t6
-    returns-4)
+    (λ c. search needs) (λ c. search needs) returns returns-2 (λ c. search needs) (λ c. search needs) (λ c. search needs) returns-3
+    (λ c. search needs) returns-4)

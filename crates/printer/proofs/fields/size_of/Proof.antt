@@ -51,10 +51,4 @@ pub size-of-spec : {M : Type 1} → statement M
 size-of-spec =
     tie.close
     (tie.spec
-    add-result
-    sub-result
-    cast-result
-    add-result-2
-    returns
-    cast-result-2
-    returns-2)
+    add-result sub-result cast-result add-result-2 returns cast-result-2 returns-2)

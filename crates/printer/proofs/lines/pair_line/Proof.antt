@@ -1,10 +1,10 @@
 -- `lines::pair_line` meets its contract: the passes of its fields join. Assumes nothing.
 use mathlib.Core.Path.{ap}
-use mathlib.Core.List.{[], _∷_, _++_}
+use mathlib.Core.List.{List}
+use Prim.Native.Nat.{ℕ}
 use lib.IntN.{ℤ}
 use mir.Facts.{toZ-ofZ}
 use mir.Syntax.{w64}
-use Rattle.printer.specs.Writing.{state}
 use Rattle.printer.specs.WritingLaws.{pass-then, pass-same}
 use Rattle.printer.specs.Decimal.{signed}
 use Rattle.printer.specs.Lines.{pair-line, field}
@@ -12,35 +12,21 @@ use borrow.Author.Needs.{needs}
 use Rattle.printer.proofs.lines.pair_line.Statement.{statement}
 use Rattle.printer.proofs.lines.pair_line.Tie as tie
 
-put-requires : tie.Need-put-requires
-put-requires c κs = search needs
-
-signed-field-requires : tie.Need-signed-field-requires
-signed-field-requires c κs = search needs
-
-signed-field-requires-2 : tie.Need-signed-field-requires-2
-signed-field-requires-2 c κs = search needs
-
-put-requires-2 : tie.Need-put-requires-2
-put-requires-2 c κs = search needs
-
-same-length : tie.Need-same-length
-same-length c = search needs
-
 returns : tie.Need-returns
 unfolding pair-line
 returns c =
-    let a = c .before .before .before .before .before .before .before .before .before .before .before .before .before .before .before .before .before .args in
-    let s = state (a .place) (a .out .now) in
-    pass-then (a .writing) (((80 ∷ []) ++ (field (signed (a .last)))) ++ (field (signed (a .worst)))) (10 ∷ []) s (pass-then (a .writing) ((80 ∷ []) ++ (field (signed (a .last)))) (field (signed (a .worst))) s (pass-then (a .writing) (80 ∷ []) (field (signed (a .last))) s (c .before .before .before .before .before .before .before .before .before .before .before .before .before .before .put .ensures) (pass-same (a .writing) _ (ap (λ (n : ℤ). field (signed n)) (toZ-ofZ {w = w64} (c .before .before .before .before .before .before .before .before .before .before .before .before .before .before .before .before .before .fits .last))) (c .before .before .before .before .before .before .before .before .before .before .signed-field .ensures))) (pass-same (a .writing) _ (ap (λ (n : ℤ). field (signed n)) (toZ-ofZ {w = w64} (c .before .before .before .before .before .before .before .before .before .before .before .before .before .before .before .before .before .fits .worst))) (c .before .before .before .before .before .before .signed-field2 .ensures))) (c .before .before .put2 .ensures)
+    let end = c .before .before in
+    let worst = end .before .before .before .before in
+    let last = worst .before .before .before .before in
+    let kind = last .before .before .before .before in
+    let s = kind .before .before .before in
+    let bytes : ℤ → List ℕ = λ n. field (signed n) in
+    let last-put = pass-same (s .args .writing) _ (ap bytes (toZ-ofZ {w = w64} (s .fits .last))) (last .signed-field .ensures) in
+    let worst-put = pass-same (s .args .writing) _ (ap bytes (toZ-ofZ {w = w64} (s .fits .worst))) (worst .signed-field2 .ensures) in
+    pass-then _ _ _ _ (pass-then _ _ _ _ (pass-then _ _ _ _ (kind .put .ensures) last-put) worst-put) (end .put2 .ensures)
 
 pub pair-line-spec : {M : Type 1} → statement M
 pair-line-spec =
     tie.close
     (tie.spec
-    put-requires
-    signed-field-requires
-    signed-field-requires-2
-    put-requires-2
-    same-length
-    returns)
+    (λ c κs. search needs) (λ c κs. search needs) (λ c κs. search needs) (λ c κs. search needs) (λ c. search needs) returns)

@@ -1,46 +1,27 @@
 -- `lines::time_line` meets its contract: the passes of its fields join. Assumes nothing.
-use mathlib.Core.List.{[], _∷_, _++_}
-use Rattle.printer.specs.Writing.{state}
 use Rattle.printer.specs.WritingLaws.{pass-then}
-use Rattle.printer.specs.Decimal.{decimal}
-use Rattle.printer.specs.Lines.{time-line, field}
+use Rattle.printer.specs.Lines.{time-line}
 use borrow.Author.Needs.{needs}
 use Rattle.printer.proofs.lines.time_line.Statement.{statement}
 use Rattle.printer.proofs.lines.time_line.Tie as tie
 
-put-requires : tie.Need-put-requires
-put-requires c κs = search needs
-
-number-field-requires : tie.Need-number-field-requires
-number-field-requires c κs = search needs
-
-number-field-requires-2 : tie.Need-number-field-requires-2
-number-field-requires-2 c κs = search needs
-
-number-field-requires-3 : tie.Need-number-field-requires-3
-number-field-requires-3 c κs = search needs
-
-put-requires-2 : tie.Need-put-requires-2
-put-requires-2 c κs = search needs
-
-same-length : tie.Need-same-length
-same-length c = search needs
-
 returns : tie.Need-returns
 unfolding time-line
 returns c =
-    let a = c .before .before .before .before .before .before .before .before .before .before .before .before .before .before .before .before .before .before .before .before .before .args in
-    let s = state (a .place) (a .out .now) in
-    pass-then (a .writing) ((((68 ∷ []) ++ (field (decimal (a .train)))) ++ (field (decimal (a .departure)))) ++ (field (decimal (a .arrival)))) (10 ∷ []) s (pass-then (a .writing) (((68 ∷ []) ++ (field (decimal (a .train)))) ++ (field (decimal (a .departure)))) (field (decimal (a .arrival))) s (pass-then (a .writing) ((68 ∷ []) ++ (field (decimal (a .train)))) (field (decimal (a .departure))) s (pass-then (a .writing) (68 ∷ []) (field (decimal (a .train))) s (c .before .before .before .before .before .before .before .before .before .before .before .before .before .before .before .before .before .before .put .ensures) (c .before .before .before .before .before .before .before .before .before .before .before .before .before .before .number-field .ensures)) (c .before .before .before .before .before .before .before .before .before .before .number-field2 .ensures)) (c .before .before .before .before .before .before .number-field3 .ensures)) (c .before .before .put2 .ensures)
+    let end = c .before .before in
+    let arrival = end .before .before .before .before in
+    let departure = arrival .before .before .before .before in
+    let train = departure .before .before .before .before in
+    let kind = train .before .before .before .before in
+    pass-then _ _ _ _
+    (pass-then _ _ _ _
+    (pass-then _ _ _ _ (pass-then _ _ _ _ (kind .put .ensures) (train .number-field .ensures)) (departure .number-field2 .ensures))
+    (arrival .number-field3 .ensures))
+    (end .put2 .ensures)
 
 pub time-line-spec : {M : Type 1} → statement M
 time-line-spec =
     tie.close
     (tie.spec
-    put-requires
-    number-field-requires
-    number-field-requires-2
-    number-field-requires-3
-    put-requires-2
-    same-length
+    (λ c κs. search needs) (λ c κs. search needs) (λ c κs. search needs) (λ c κs. search needs) (λ c κs. search needs) (λ c. search needs)
     returns)

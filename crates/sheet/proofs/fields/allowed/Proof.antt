@@ -6,19 +6,10 @@ use borrow.Author.Needs.{needs}
 use Rattle.sheet.proofs.fields.allowed.Statement.{statement}
 use Rattle.sheet.proofs.fields.allowed.Tie as tie
 
-in-range-requires : tie.Need-in-range-requires
-in-range-requires c κs = search needs
-
 returns : tie.Need-returns
 returns c =
     let a = c .before .before .args in
     sym (ten-digits (a .alphabet) (a .b) (sym (c .before .in-range .ensures) ∙ c .if1 .taken))
-
-enum-told : tie.Need-enum-told
-enum-told c = search needs
-
-enum-told-2 : tie.Need-enum-told-2
-enum-told-2 c = search needs
 
 returns-2 : tie.Need-returns-2
 returns-2 c = rw (c .enum-told2 .given .1) (sym (c .before .before .if1 .left) ∙ c .before .before .before .in-range .ensures)
@@ -28,23 +19,14 @@ returns-3 c =
     let d = c .before .before .before in
     rw (c .before .enum-told .given .1) (simp (sym (d .before .in-range .ensures) ∙ d .if1 .left, eq-eqb _ _ (c .if2 .taken)))
 
-in-range-requires-2 : tie.Need-in-range-requires-2
-in-range-requires-2 c κs = search needs
-
 returns-4 : tie.Need-returns-4
 returns-4 c =
     let d = c .before .before .before .before in
-    rw (c .before .before .enum-told .given .1) (simp (sym (d .before .in-range .ensures) ∙ d .if1 .left, ne-eqb _ _ (c .before .if2 .left)) (c .in-range2 .ensures))
+    rw (c .before .before .enum-told .given .1) (simp (sym (d .before .in-range .ensures) ∙ d .if1 .left, ne-eqb _ _ (c .before .if2 .left))
+    (c .in-range2 .ensures))
 
 pub allowed-spec : {M : Type 1} → statement M
 allowed-spec =
     tie.close
     (tie.spec
-    in-range-requires
-    returns
-    enum-told
-    enum-told-2
-    returns-2
-    returns-3
-    in-range-requires-2
-    returns-4)
+    (λ c κs. search needs) returns (λ c. search needs) (λ c. search needs) returns-2 returns-3 (λ c κs. search needs) returns-4)

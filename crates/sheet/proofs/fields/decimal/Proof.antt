@@ -54,12 +54,6 @@ add-value c =
       digit-at (a .text .now) (a .from) (c .before .before .loop .n) (omega arith) .1,
     )
 
-add-n : tie.Need-add-n Inv-loop μ-loop
-add-n c = search needs
-
-loop-less : tie.Need-loop-less Inv-loop μ-loop
-loop-less c = search needs
-
 loop-again : tie.Need-loop-again Inv-loop μ-loop
 unfolding decimalOf
 loop-again c = (omega arith, rw add-one (omega arith))
@@ -74,16 +68,5 @@ pub decimal-spec : {M : Type 1} → statement M
 decimal-spec =
     tie.close
     (tie.spec
-    Inv-loop
-    μ-loop
-    loop-holds
-    add-b
-    shared-slice-read-b
-    mul-value
-    sub-value
-    cast-value
-    add-value
-    add-n
-    loop-less
-    loop-again
-    returns)
+    Inv-loop μ-loop loop-holds add-b shared-slice-read-b mul-value sub-value cast-value add-value (λ c. search needs) (λ c. search needs)
+    loop-again returns)

@@ -8,16 +8,10 @@ use borrow.Author.Needs.{needs}
 use Rattle.sheet.proofs.fields.name_field.Statement.{statement}
 use Rattle.sheet.proofs.fields.name_field.Tie as tie
 
-byte-at-requires : tie.Need-byte-at-requires
-byte-at-requires c κs = search needs
-
 add-start : tie.Need-add-start
 add-start c =
     let a = c .before .before .before .args in
     omega (arith, inside-text (a .text .now) (a .p) 43 (sym (c .before .byte-at .ensures) ∙ c .if1 .taken))
-
-run-requires : tie.Need-run-requires
-run-requires c κs = search needs
 
 returns : tie.Need-returns
 unfolding nameField
@@ -46,4 +40,4 @@ returns-4 c = simp (ne-eqb _ _ (λ e. c .if1 .left (c .before .byte-at .ensures 
 pub name-field-spec : {M : Type 1} → statement M
 name-field-spec =
     tie.close
-    (tie.spec byte-at-requires add-start run-requires returns returns-2 returns-3 returns-4)
+    (tie.spec (λ c κs. search needs) add-start (λ c κs. search needs) returns returns-2 returns-3 returns-4)

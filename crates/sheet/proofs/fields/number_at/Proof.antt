@@ -9,9 +9,6 @@ use borrow.Author.Needs.{needs}
 use Rattle.sheet.proofs.fields.number_at.Statement.{statement}
 use Rattle.sheet.proofs.fields.number_at.Tie as tie
 
-run-requires : tie.Need-run-requires
-run-requires c κs = search needs
-
 returns : tie.Need-returns
 unfolding numberAt
 returns c = rw (← c .before .run .ensures) (simp (lt-leb _ _ (c .if1 .taken)))
@@ -20,9 +17,6 @@ returns-2 : tie.Need-returns-2
 unfolding numberAt
 returns-2 c =
     rw (← c .before .before .run .ensures) (simp (le-leb _ _ (c .before .if1 .left), lt-leb _ _ (c .if2 .taken)))
-
-decimal-requires : tie.Need-decimal-requires
-decimal-requires c κs = search needs
 
 add-t7 : tie.Need-add-t7
 add-t7 c =
@@ -37,9 +31,6 @@ returns-3 c =
     rw (← d .before .run .ensures)
     (simp (le-leb _ _ (d .if1 .left), le-leb _ _ (c .before .before .if2 .left), eq-eqb _ _ (c .before .if3 .taken), c .decimal .ensures))
 
-byte-at-requires : tie.Need-byte-at-requires
-byte-at-requires c κs = search needs
-
 returns-4 : tie.Need-returns-4
 unfolding numberAt
 returns-4 c =
@@ -51,9 +42,6 @@ returns-4 c =
       ne-eqb _ _ (c .before .before .if3 .left),
       eq-eqb _ _ (sym (c .before .byte-at .ensures) ∙ c .if4 .taken),
     ))
-
-decimal-requires-2 : tie.Need-decimal-requires-2
-decimal-requires-2 c κs = search needs
 
 add-t10 : tie.Need-add-t10
 add-t10 c =
@@ -78,14 +66,5 @@ pub number-at-spec : {M : Type 1} → statement M
 number-at-spec =
     tie.close
     (tie.spec
-    run-requires
-    returns
-    returns-2
-    decimal-requires
-    add-t7
-    returns-3
-    byte-at-requires
-    returns-4
-    decimal-requires-2
-    add-t10
-    returns-5)
+    (λ c κs. search needs) returns returns-2 (λ c κs. search needs) add-t7 returns-3 (λ c κs. search needs) returns-4
+    (λ c κs. search needs) add-t10 returns-5)

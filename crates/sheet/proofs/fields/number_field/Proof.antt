@@ -8,16 +8,10 @@ use borrow.Author.Needs.{needs}
 use Rattle.sheet.proofs.fields.number_field.Statement.{statement}
 use Rattle.sheet.proofs.fields.number_field.Tie as tie
 
-byte-at-requires : tie.Need-byte-at-requires
-byte-at-requires c κs = search needs
-
 add-number-at : tie.Need-add-number-at
 add-number-at c =
     let a = c .before .before .before .args in
     omega (arith, inside-text (a .text .now) (a .p) 43 (sym (c .before .byte-at .ensures) ∙ c .if1 .taken))
-
-number-at-requires : tie.Need-number-at-requires
-number-at-requires c κs = search needs
 
 returns : tie.Need-returns
 unfolding numberField
@@ -30,4 +24,4 @@ returns-2 c = simp (ne-eqb _ _ (λ e. c .if1 .left (c .before .byte-at .ensures 
 
 pub number-field-spec : {M : Type 1} → statement M
 number-field-spec =
-    tie.close (tie.spec byte-at-requires add-number-at number-at-requires returns returns-2)
+    tie.close (tie.spec (λ c κs. search needs) add-number-at (λ c κs. search needs) returns returns-2)

@@ -15,38 +15,27 @@ Inv-loop text from alphabet p₀ p = (from ≤ p) × (runOf alphabet (drop from 
 abbrev μ-loop : tie.MeasureT-loop
 μ-loop text from alphabet p₀ p = length text - p
 
-loop-holds : tie.Need-loop-holds Inv-loop μ-loop
-loop-holds c = search needs
-
-shared-slice-read-allowed : tie.Need-shared-slice-read-allowed Inv-loop μ-loop
-shared-slice-read-allowed c = search needs
-
-allowed-requires : tie.Need-allowed-requires Inv-loop μ-loop
-allowed-requires c κs = search needs
-
-add-p : tie.Need-add-p Inv-loop μ-loop
-add-p c = search needs
-
-loop-less : tie.Need-loop-less Inv-loop μ-loop
-loop-less c = search needs
-
 loop-again : tie.Need-loop-again Inv-loop μ-loop
 loop-again c =
     let l = c .before .before .before .before in
-    let a = l .before .before .args in
-    (omega arith, omega (arith, run-next (a .alphabet) (a .text .now) (l .loop .p) (c .before .before .before .loop-test .taken) (sym (c .before .allowed .ensures) ∙ c .if1 .taken)))
-
-sub-result : tie.Need-sub-result Inv-loop μ-loop
-sub-result c = search needs
+    let a = l .before .before .args in (
+      omega arith,
+      omega (
+        arith,
+        run-next (a .alphabet) (a .text .now) (l .loop .p) (c .before .before .before .loop-test .taken)
+            (sym (c .before .allowed .ensures) ∙ c .if1 .taken),
+      ),
+    )
 
 returns : tie.Need-returns Inv-loop μ-loop
 returns c =
     let l = c .before .before .before .before in
     let a = l .before .before .args in
-    omega (arith, run-stop (a .alphabet) (a .text .now) (l .loop .p) (c .before .before .before .loop-test .taken) (sym (c .before .allowed .ensures) ∙ c .if1 .left))
-
-sub-result-2 : tie.Need-sub-result-2 Inv-loop μ-loop
-sub-result-2 c = search needs
+    omega (
+      arith,
+      run-stop (a .alphabet) (a .text .now) (l .loop .p) (c .before .before .before .loop-test .taken)
+          (sym (c .before .allowed .ensures) ∙ c .if1 .left),
+    )
 
 returns-2 : tie.Need-returns-2 Inv-loop μ-loop
 returns-2 c =
@@ -57,15 +46,5 @@ pub run-spec : {M : Type 1} → statement M
 run-spec =
     tie.close
     (tie.spec
-    Inv-loop
-    μ-loop
-    loop-holds
-    shared-slice-read-allowed
-    allowed-requires
-    add-p
-    loop-less
-    loop-again
-    sub-result
-    returns
-    sub-result-2
-    returns-2)
+    Inv-loop μ-loop (λ c. search needs) (λ c. search needs) (λ c κs. search needs) (λ c. search needs) (λ c. search needs) loop-again
+    (λ c. search needs) returns (λ c. search needs) returns-2)

@@ -13,39 +13,21 @@ returns-2 : tie.Need-returns-2
 unfolding fixedTrainInOrder
 returns-2 c = simp (lt-ltb _ _ (c .before .if1 .left), eq-eqb _ _ (c .if2 .taken))
 
-sub-last : tie.Need-sub-last
-sub-last c = search needs
-
-mul-departed : tie.Need-mul-departed
-mul-departed c = search needs
-
-array-read-departed : tie.Need-array-read-departed
-array-read-departed c = search needs
-
 returns-3 : tie.Need-returns-3
 unfolding fixedTrainInOrder
 returns-3 c = simp (lt-ltb _ _ (c .before .before .before .if1 .left), ne-eqb _ _ (c .before .before .if2 .left), le-ltb _ _ (c .if3 .taken))
 
-mul-result : tie.Need-mul-result
-mul-result c = search needs
-
-array-read-result : tie.Need-array-read-result
-array-read-result c = search needs
-
 returns-4 : tie.Need-returns-4
 unfolding fixedTrainInOrder
-returns-4 c = simp (lt-ltb _ _ (c .before .before .before .before .if1 .left), ne-eqb _ _ (c .before .before .before .if2 .left), lt-ltb _ _ (c .before .if3 .left))
+returns-4 c = simp (
+  lt-ltb _ _ (c .before .before .before .before .if1 .left),
+  ne-eqb _ _ (c .before .before .before .if2 .left),
+  lt-ltb _ _ (c .before .if3 .left),
+)
 
 pub fixed-train-in-order-spec : {M : Type 1} → statement M
 fixed-train-in-order-spec =
     tie.close
     (tie.spec
-    returns
-    returns-2
-    sub-last
-    mul-departed
-    array-read-departed
-    returns-3
-    mul-result
-    array-read-result
+    returns returns-2 (λ c. search needs) (λ c. search needs) (λ c. search needs) returns-3 (λ c. search needs) (λ c. search needs)
     returns-4)

@@ -5,15 +5,6 @@ use borrow.Author.Needs.{needs}
 use Rattle.sheet.proofs.line_tests.fixed_train_in_range.Statement.{statement}
 use Rattle.sheet.proofs.line_tests.fixed_train_in_range.Tie as tie
 
-in-range-requires : tie.Need-in-range-requires
-in-range-requires c κs = search needs
-
-in-range-requires-2 : tie.Need-in-range-requires-2
-in-range-requires-2 c κs = search needs
-
-in-range-requires-3 : tie.Need-in-range-requires-3
-in-range-requires-3 c κs = search needs
-
 returns : tie.Need-returns
 unfolding fixedTrainInRange
 returns c =
@@ -34,9 +25,4 @@ pub fixed-train-in-range-spec : {M : Type 1} → statement M
 fixed-train-in-range-spec =
     tie.close
     (tie.spec
-    in-range-requires
-    in-range-requires-2
-    in-range-requires-3
-    returns
-    returns-2
-    returns-3)
+    (λ c κs. search needs) (λ c κs. search needs) (λ c κs. search needs) returns returns-2 returns-3)

@@ -13,19 +13,10 @@ returns-2 : tie.Need-returns-2
 unfolding windowInOrder
 returns-2 c = simp (le-leb _ _ (c .before .if1 .left), eq-eqb _ _ (c .if2 .taken))
 
-sub-last : tie.Need-sub-last
-sub-last c = search needs
-
-mul-result : tie.Need-mul-result
-mul-result c = search needs
-
-array-read-result : tie.Need-array-read-result
-array-read-result c = search needs
-
 returns-3 : tie.Need-returns-3
 unfolding windowInOrder
 returns-3 c = simp (le-leb _ _ (c .before .before .if1 .left), ne-eqb _ _ (c .before .if2 .left))
 
 pub window-in-order-spec : {M : Type 1} → statement M
 window-in-order-spec =
-    tie.close (tie.spec returns returns-2 sub-last mul-result array-read-result returns-3)
+    tie.close (tie.spec returns returns-2 (λ c. search needs) (λ c. search needs) (λ c. search needs) returns-3)

@@ -5,12 +5,6 @@ use borrow.Author.Needs.{needs}
 use Rattle.sheet.proofs.line_tests.window_in_range.Statement.{statement}
 use Rattle.sheet.proofs.line_tests.window_in_range.Tie as tie
 
-in-range-requires : tie.Need-in-range-requires
-in-range-requires c κs = search needs
-
-in-range-requires-2 : tie.Need-in-range-requires-2
-in-range-requires-2 c κs = search needs
-
 returns : tie.Need-returns
 unfolding windowInRange
 returns c = simp (sym (c .before .before .in-range .ensures) ∙ c .before .if1 .taken) (c .in-range2 .ensures)
@@ -20,4 +14,4 @@ unfolding windowInRange
 returns-2 c = simp (sym (c .before .in-range .ensures) ∙ c .if1 .left)
 
 pub window-in-range-spec : {M : Type 1} → statement M
-window-in-range-spec = tie.close (tie.spec in-range-requires in-range-requires-2 returns returns-2)
+window-in-range-spec = tie.close (tie.spec (λ c κs. search needs) (λ c κs. search needs) returns returns-2)

@@ -5,21 +5,9 @@ use borrow.Author.Needs.{needs}
 use Rattle.sheet.proofs.lines.gap_line.Statement.{statement}
 use Rattle.sheet.proofs.lines.gap_line.Tie as tie
 
-number-field-requires : tie.Need-number-field-requires
-number-field-requires c κs = search needs
-
-enum-known-gap : tie.Need-enum-known-gap
-enum-known-gap c = search needs
-
-enum-told : tie.Need-enum-told
-enum-told c = search needs
-
 returns : tie.Need-returns
 unfolding gapLine
 returns c = rw (sym (c .before .before .number-field .ensures) ∙ c .enum-told .given .1)
-
-line-end-requires : tie.Need-line-end-requires
-line-end-requires c κs = search needs
 
 returns-2 : tie.Need-returns-2
 unfolding gapLine
@@ -30,4 +18,4 @@ returns-2 c =
 pub gap-line-spec : {M : Type 1} → statement M
 gap-line-spec =
     tie.close
-    (tie.spec number-field-requires enum-known-gap enum-told returns line-end-requires returns-2)
+    (tie.spec (λ c κs. search needs) (λ c. search needs) (λ c. search needs) returns (λ c κs. search needs) returns-2)

@@ -5,21 +5,9 @@ use borrow.Author.Needs.{needs}
 use Rattle.sheet.proofs.lines.line_at.Statement.{statement}
 use Rattle.sheet.proofs.lines.line_at.Tie as tie
 
-shared-slice-read-letter : tie.Need-shared-slice-read-letter
-shared-slice-read-letter c = search needs
-
-add-fields : tie.Need-add-fields
-add-fields c = search needs
-
-gap-line-requires : tie.Need-gap-line-requires
-gap-line-requires c κs = search needs
-
 returns : tie.Need-returns
 unfolding lineAt
 returns c = simp (eq-eqb _ _ (c .before .if1 .taken)) (c .gap-line .ensures)
-
-window-line-requires : tie.Need-window-line-requires
-window-line-requires c κs = search needs
 
 returns-2 : tie.Need-returns-2
 unfolding lineAt
@@ -28,9 +16,6 @@ returns-2 c =
     let g = w .before in
     simp (ne-eqb _ _ (g .if1 .left), eq-eqb _ _ (w .if2 .taken)) (c .window-line .ensures)
 
-train-line-requires : tie.Need-train-line-requires
-train-line-requires c κs = search needs
-
 returns-3 : tie.Need-returns-3
 unfolding lineAt
 returns-3 c =
@@ -38,9 +23,6 @@ returns-3 c =
     let w = t .before in
     let g = w .before in
     simp (ne-eqb _ _ (g .if1 .left), ne-eqb _ _ (w .if2 .left), eq-eqb _ _ (t .if3 .taken)) (c .train-line .ensures)
-
-fixed-train-line-requires : tie.Need-fixed-train-line-requires
-fixed-train-line-requires c κs = search needs
 
 returns-4 : tie.Need-returns-4
 unfolding lineAt
@@ -51,9 +33,6 @@ returns-4 c =
     let g = w .before in
     simp (ne-eqb _ _ (g .if1 .left), ne-eqb _ _ (w .if2 .left), ne-eqb _ _ (t .if3 .left), eq-eqb _ _ (x .if4 .taken)) (c .fixed-train-line .ensures)
 
-order-line-requires : tie.Need-order-line-requires
-order-line-requires c κs = search needs
-
 returns-5 : tie.Need-returns-5
 unfolding lineAt
 returns-5 c =
@@ -62,7 +41,8 @@ returns-5 c =
     let t = x .before in
     let w = t .before in
     let g = w .before in
-    simp (ne-eqb _ _ (g .if1 .left), ne-eqb _ _ (w .if2 .left), ne-eqb _ _ (t .if3 .left), ne-eqb _ _ (x .if4 .left), eq-eqb _ _ (o .if5 .taken)) (c .order-line .ensures)
+    simp (ne-eqb _ _ (g .if1 .left), ne-eqb _ _ (w .if2 .left), ne-eqb _ _ (t .if3 .left), ne-eqb _ _ (x .if4 .left), eq-eqb _ _ (o .if5 .taken))
+    (c .order-line .ensures)
 
 returns-6 : tie.Need-returns-6
 unfolding lineAt
@@ -78,16 +58,5 @@ pub line-at-spec : {M : Type 1} → statement M
 line-at-spec =
     tie.close
     (tie.spec
-    shared-slice-read-letter
-    add-fields
-    gap-line-requires
-    returns
-    window-line-requires
-    returns-2
-    train-line-requires
-    returns-3
-    fixed-train-line-requires
-    returns-4
-    order-line-requires
-    returns-5
-    returns-6)
+    (λ c. search needs) (λ c. search needs) (λ c κs. search needs) returns (λ c κs. search needs) returns-2 (λ c κs. search needs)
+    returns-3 (λ c κs. search needs) returns-4 (λ c κs. search needs) returns-5 returns-6)

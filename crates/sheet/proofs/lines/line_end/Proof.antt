@@ -8,9 +8,6 @@ use borrow.Author.Needs.{needs}
 use Rattle.sheet.proofs.lines.line_end.Statement.{statement}
 use Rattle.sheet.proofs.lines.line_end.Tie as tie
 
-byte-at-requires : tie.Need-byte-at-requires
-byte-at-requires c κs = search needs
-
 add-t7 : tie.Need-add-t7
 add-t7 c =
     let a = c .before .before .before .args in
@@ -25,4 +22,4 @@ unfolding ended
 returns-2 c = simp (ne-eqb _ _ (λ e. c .if1 .left (c .before .byte-at .ensures ∙ e)))
 
 pub line-end-spec : {M : Type 1} → statement M
-line-end-spec = tie.close (tie.spec byte-at-requires add-t7 returns returns-2)
+line-end-spec = tie.close (tie.spec (λ c κs. search needs) add-t7 returns returns-2)

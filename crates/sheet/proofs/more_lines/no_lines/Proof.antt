@@ -4,12 +4,9 @@ use borrow.Author.Needs.{needs}
 use Rattle.sheet.proofs.more_lines.no_lines.Statement.{statement}
 use Rattle.sheet.proofs.more_lines.no_lines.Tie as tie
 
-no-orders-requires : tie.Need-no-orders-requires
-no-orders-requires c κs = search needs
-
 returns : tie.Need-returns
 unfolding noLines
 returns c = rw (c .no-orders .ensures)
 
 pub no-lines-spec : {M : Type 1} → statement M
-no-lines-spec = tie.close (tie.spec no-orders-requires returns)
+no-lines-spec = tie.close (tie.spec (λ c κs. search needs) returns)

@@ -5,12 +5,9 @@ use borrow.Author.Needs.{needs}
 use Rattle.sheet.proofs.more_lines.with_gap.Statement.{statement}
 use Rattle.sheet.proofs.more_lines.with_gap.Tie as tie
 
-add-next : tie.Need-add-next
-add-next c = search needs
-
 returns : tie.Need-returns
 unfolding withGap
 returns c = refl
 
 pub with-gap-spec : {M : Type 1} → statement M
-with-gap-spec = tie.close (tie.spec add-next returns)
+with-gap-spec = tie.close (tie.spec (λ c. search needs) returns)

@@ -1,39 +1,24 @@
 -- `with_line` meets its contract: each kind of line has its own function. Assumes nothing.
 use mathlib.Core.Path.{subst}
-use Rattle.sheet.specs.SheetLines.{Room, withLine}
+use Rattle.sheet.specs.SheetLines.{OneMore, withLine}
 use borrow.Author.Needs.{needs}
 use Rattle.sheet.proofs.more_lines.with_line.Statement.{statement}
 use Rattle.sheet.proofs.more_lines.with_line.Tie as tie
 
-enum-known-read : tie.Need-enum-known-read
-enum-known-read c = search needs
-
 with-gap-requires : tie.Need-with-gap-requires
-with-gap-requires c κs = subst (Room (c .before .before .before .args .lines)) (c .before .read .given .1) (c .before .before .before .pre)
-
-enum-known-read-2 : tie.Need-enum-known-read-2
-enum-known-read-2 c = search needs
+with-gap-requires c κs = subst (OneMore (c .before .before .before .args .lines)) (c .before .read .given .1) (c .before .before .before .pre)
 
 with-window-requires : tie.Need-with-window-requires
-with-window-requires c κs = subst (Room (c .before .before .before .args .lines)) (c .before .read2 .given .1) (c .before .before .before .pre)
-
-enum-known-read-3 : tie.Need-enum-known-read-3
-enum-known-read-3 c = search needs
+with-window-requires c κs = subst (OneMore (c .before .before .before .args .lines)) (c .before .read2 .given .1) (c .before .before .before .pre)
 
 with-train-requires : tie.Need-with-train-requires
-with-train-requires c κs = subst (Room (c .before .before .before .args .lines)) (c .before .read3 .given .1) (c .before .before .before .pre)
-
-enum-known-read-4 : tie.Need-enum-known-read-4
-enum-known-read-4 c = search needs
+with-train-requires c κs = subst (OneMore (c .before .before .before .args .lines)) (c .before .read3 .given .1) (c .before .before .before .pre)
 
 with-fixed-train-requires : tie.Need-with-fixed-train-requires
-with-fixed-train-requires c κs = subst (Room (c .before .before .before .args .lines)) (c .before .read4 .given .1) (c .before .before .before .pre)
-
-enum-known-read-5 : tie.Need-enum-known-read-5
-enum-known-read-5 c = search needs
+with-fixed-train-requires c κs = subst (OneMore (c .before .before .before .args .lines)) (c .before .read4 .given .1) (c .before .before .before .pre)
 
 with-order-line-requires : tie.Need-with-order-line-requires
-with-order-line-requires c κs = subst (Room (c .before .before .before .args .lines)) (c .before .read5 .given .1) (c .before .before .before .pre)
+with-order-line-requires c κs = subst (OneMore (c .before .before .before .args .lines)) (c .before .read5 .given .1) (c .before .before .before .pre)
 
 returns : tie.Need-returns
 unfolding withLine
@@ -59,18 +44,6 @@ pub with-line-spec : {M : Type 1} → statement M
 with-line-spec =
     tie.close
     (tie.spec
-    enum-known-read
-    with-gap-requires
-    enum-known-read-2
-    with-window-requires
-    enum-known-read-3
-    with-train-requires
-    enum-known-read-4
-    with-fixed-train-requires
-    enum-known-read-5
-    with-order-line-requires
-    returns
-    returns-2
-    returns-3
-    returns-4
+    (λ c. search needs) with-gap-requires (λ c. search needs) with-window-requires (λ c. search needs) with-train-requires
+    (λ c. search needs) with-fixed-train-requires (λ c. search needs) with-order-line-requires returns returns-2 returns-3 returns-4
     returns-5)

@@ -4,12 +4,9 @@ use borrow.Author.Needs.{needs}
 use Rattle.sheet.proofs.more_lines.with_order_line.Statement.{statement}
 use Rattle.sheet.proofs.more_lines.with_order_line.Tie as tie
 
-with-order-requires : tie.Need-with-order-requires
-with-order-requires c κs = search needs
-
 returns : tie.Need-returns
 unfolding withOrderLine
 returns c = rw (c .with-order .ensures)
 
 pub with-order-line-spec : {M : Type 1} → statement M
-with-order-line-spec = tie.close (tie.spec with-order-requires returns)
+with-order-line-spec = tie.close (tie.spec (λ c κs. search needs) returns)

@@ -5,21 +5,6 @@ use borrow.Author.Needs.{needs}
 use Rattle.sheet.proofs.more_lines.with_window.Statement.{statement}
 use Rattle.sheet.proofs.more_lines.with_window.Tie as tie
 
-mul-next : tie.Need-mul-next
-mul-next c = search needs
-
-element-write-next : tie.Need-element-write-next
-element-write-next c = search needs
-
-mul-next-2 : tie.Need-mul-next-2
-mul-next-2 c = search needs
-
-element-write-next-2 : tie.Need-element-write-next-2
-element-write-next-2 c = search needs
-
-add-next : tie.Need-add-next
-add-next c = search needs
-
 returns : tie.Need-returns
 unfolding withWindow
 returns c = refl
@@ -27,4 +12,4 @@ returns c = refl
 pub with-window-spec : {M : Type 1} → statement M
 with-window-spec =
     tie.close
-    (tie.spec mul-next element-write-next mul-next-2 element-write-next-2 add-next returns)
+    (tie.spec (λ c. search needs) (λ c. search needs) (λ c. search needs) (λ c. search needs) (λ c. search needs) returns)

@@ -4,19 +4,10 @@ use borrow.Author.Needs.{needs}
 use Rattle.sheet.proofs.walk.end_fault.Statement.{statement}
 use Rattle.sheet.proofs.walk.end_fault.Tie as tie
 
-places-of-requires : tie.Need-places-of-requires
-places-of-requires c κs = search needs
-
-is-complete-requires : tie.Need-is-complete-requires
-is-complete-requires c κs = search needs
-
-last-fault-requires : tie.Need-last-fault-requires
-last-fault-requires c κs = search needs
-
 returns : tie.Need-returns
 unfolding endFault
 returns c = rw (← c .before .before .is-complete .ensures, ← c .before .before .before .before .places-of .ensures) (c .last-fault .ensures)
 
 pub end-fault-spec : {M : Type 1} → statement M
 end-fault-spec =
-    tie.close (tie.spec places-of-requires is-complete-requires last-fault-requires returns)
+    tie.close (tie.spec (λ c κs. search needs) (λ c κs. search needs) (λ c κs. search needs) returns)

@@ -4,18 +4,6 @@ use borrow.Author.Needs.{needs}
 use Rattle.sheet.proofs.walk.ended_text.Statement.{statement}
 use Rattle.sheet.proofs.walk.ended_text.Tie as tie
 
-end-fault-requires : tie.Need-end-fault-requires
-end-fault-requires c κs = search needs
-
-enum-known-refusal : tie.Need-enum-known-refusal
-enum-known-refusal c = search needs
-
-refused-text-requires : tie.Need-refused-text-requires
-refused-text-requires c κs = search needs
-
-enum-told : tie.Need-enum-told
-enum-told c = search needs
-
 returns : tie.Need-returns
 returns c = rw (sym (c .before .before .before .before .end-fault .ensures) ∙ c .before .before .refusal .given .1) (c .refused-text .ensures)
 
@@ -26,9 +14,4 @@ pub ended-text-spec : {M : Type 1} → statement M
 ended-text-spec =
     tie.close
     (tie.spec
-    end-fault-requires
-    enum-known-refusal
-    refused-text-requires
-    enum-told
-    returns
-    returns-2)
+    (λ c κs. search needs) (λ c. search needs) (λ c κs. search needs) (λ c. search needs) returns returns-2)

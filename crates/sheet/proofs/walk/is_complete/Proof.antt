@@ -1,36 +1,24 @@
--- `is_complete` meets its contract: each form has its own kinds. Assumes nothing.
+-- `is_complete` meets its contract: each return has the tests that led to it. Assumes nothing.
+use mathlib.Core.Path.{sym, _∙_}
+use borrow.Author.Tests.{le-leb, lt-leb}
 use Rattle.sheet.specs.Tests.{complete}
 use borrow.Author.Needs.{needs}
 use Rattle.sheet.proofs.walk.is_complete.Statement.{statement}
 use Rattle.sheet.proofs.walk.is_complete.Tie as tie
 
-enum-told : tie.Need-enum-told
-enum-told c = search needs
-
-windows-complete-requires : tie.Need-windows-complete-requires
-windows-complete-requires c κs = search needs
-
-enum-told-2 : tie.Need-enum-told-2
-enum-told-2 c = search needs
-
-timetable-complete-requires : tie.Need-timetable-complete-requires
-timetable-complete-requires c κs = search needs
-
 returns : tie.Need-returns
 unfolding complete
-returns c = rw (c .before .enum-told .given .1) (c .windows-complete .ensures)
+returns c = simp (sym (c .before .before .before .windows-complete .ensures) ∙ c .before .before .if1 .taken, lt-leb _ _ (c .if2 .taken))
 
 returns-2 : tie.Need-returns-2
 unfolding complete
-returns-2 c = rw (c .before .enum-told2 .given .1) (c .timetable-complete .ensures)
+returns-2 c =
+    let d = c .before .before .before .before in
+    simp (sym (d .before .windows-complete .ensures) ∙ d .if1 .taken, le-leb _ _ (c .before .before .if2 .left))
+
+returns-3 : tie.Need-returns-3
+unfolding complete
+returns-3 c = simp (sym (c .before .windows-complete .ensures) ∙ c .if1 .left)
 
 pub is-complete-spec : {M : Type 1} → statement M
-is-complete-spec =
-    tie.close
-    (tie.spec
-    enum-told
-    windows-complete-requires
-    enum-told-2
-    timetable-complete-requires
-    returns
-    returns-2)
+is-complete-spec = tie.close (tie.spec (λ c κs. search needs) returns returns-2 returns-3)

@@ -4,12 +4,9 @@ use borrow.Author.Needs.{needs}
 use Rattle.sheet.proofs.walk.refused_text.Statement.{statement}
 use Rattle.sheet.proofs.walk.refused_text.Tie as tie
 
-no-lines-requires : tie.Need-no-lines-requires
-no-lines-requires c κs = search needs
-
 returns : tie.Need-returns
 unfolding refused
 returns c = rw (c .no-lines .ensures)
 
 pub refused-text-spec : {M : Type 1} → statement M
-refused-text-spec = tie.close (tie.spec no-lines-requires returns)
+refused-text-spec = tie.close (tie.spec (λ c κs. search needs) returns)

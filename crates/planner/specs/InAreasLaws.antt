@@ -1,0 +1,117 @@
+-- WHAT WAS WRITTEN IS WHAT IS READ. Assumes nothing.
+use mathlib.Core.Path.{_≡_, refl, sym, ap, _∙_}
+use mathlib.Core.List.{List, [], _∷_}
+use Prim.Native.Nat.{ℕ, zero, suc, _+_, _-_, _*_, _<_}
+use native.Mathlib.Omega.{arith}
+use lib.IntN.{pos}
+use lib.ListN.{length, getD, drop, List·getD-append}
+use lib.Seq.{take-at, ext-getD, getD-at, getD-append-add}
+use Rattle.numbers.specs.Counting.{at, nth, table}
+use Rattle.numbers.specs.Decides.{extend}
+use Rattle.numbers.specs.CountingLaws.{table-length, table-at}
+use Rattle.numbers.specs.Over.{over}
+use Rattle.numbers.specs.OverLaws.{over-at}
+use Rattle.model.specs.Sheet.{Sheet}
+use Rattle.model.specs.Limits.{numbers-a-pair, numbers-a-train}
+use Rattle.model.specs.Lateness.{Pair, pair-at}
+use Rattle.rounds.specs.Recording.{Plan, no-pair}
+use Rattle.rounds.specs.Rounds.{planned}
+use Rattle.rounds.specs.Areas.{Areas, pair-numbers, time-numbers, areas-after}
+use Rattle.rounds.specs.AreaLaws.{pair-numbers-length, time-numbers-length}
+use Rattle.planner.specs.InAreas.{pair-in, pairs-in, plan-in}
+
+-- ---- the numbers of a pair, and of a train
+
+record PairAt (ps : List Pair) (k : ℕ) : Type 0 where
+  last-at : getD (pair-numbers ps) (numbers-a-pair * k) (pos 0) ≡ pos (pair-at ps k .last)
+  worst-at : getD (pair-numbers ps) (numbers-a-pair * k + 1) (pos 0) ≡ pair-at ps k .worst
+
+pair-found : (ps : List Pair) (k : ℕ) → k < length ps → PairAt ps k
+unfolding pair-numbers
+pair-found [] k l = absurd (omega arith)
+pair-found (p ∷ ps) zero l = record { last-at = refl; worst-at = refl }
+pair-found (p ∷ ps) (suc k) l =
+    let e : numbers-a-pair * suc k ≡ suc (suc (numbers-a-pair * k)) = omega arith in
+    let f : numbers-a-pair * suc k + 1 ≡ suc (suc (numbers-a-pair * k + 1)) = omega arith in
+    let h = pair-found ps k (omega arith) in
+    record { last-at = rw e (h .last-at); worst-at = rw f (h .worst-at) }
+
+module _ (departure arrival : List ℕ) where
+  record TimesAt (q m : ℕ) : Type 0 where
+    departure-at : at (time-numbers departure arrival q) (numbers-a-train * m) ≡ nth departure (suc m)
+    arrival-at : at (time-numbers departure arrival q) (numbers-a-train * m + 1) ≡ nth arrival (suc m)
+
+  times-found : (q m : ℕ) → m < q → TimesAt q m
+  unfolding time-numbers
+  times-found zero m l = absurd (omega arith)
+  times-found (suc q) m l = extend {P = TimesAt (suc q)} q (λ k u. older k u (times-found q k u)) newest m l
+    where
+      long : length (time-numbers departure arrival q) ≡ numbers-a-train * q
+      long = time-numbers-length departure arrival q
+
+      older : (k : ℕ) → k < q → TimesAt q k → TimesAt (suc q) k
+      older k u h =
+          let before = List·getD-append (time-numbers departure arrival q) (nth departure (suc q) ∷ nth arrival (suc q) ∷ []) 0 in
+          record {
+            departure-at = before (numbers-a-train * k) (omega (arith, long)) ∙ h .departure-at;
+            arrival-at = before (numbers-a-train * k + 1) (omega (arith, long)) ∙ h .arrival-at;
+          }
+
+      newest : TimesAt (suc q) q
+      newest =
+          record {
+            departure-at = getD-at (time-numbers departure arrival q) (nth departure (suc q)) (nth arrival (suc q) ∷ []) 0 (numbers-a-train * q) long;
+            arrival-at = rw (sym long) (getD-append-add (time-numbers departure arrival q) (nth departure (suc q) ∷ nth arrival (suc q) ∷ []) 1 0);
+          }
+
+-- ---- the areas
+
+module _ (s : Sheet) (ps : List Pair) (x : Plan) (c : ℕ) (found : Areas) where
+  abbrev left : Areas
+  left = areas-after s (planned ps x c) found
+
+  pair-read : (k : ℕ) → k < length ps → pair-in left k ≡ pair-at ps k
+  unfolding areas-after
+  pair-read k l =
+      let h = pair-found ps k l in
+      let m = pair-numbers-length ps in
+      rw (
+        over-at (pair-numbers ps) (found .pairs) (pos 0) (numbers-a-pair * k) (omega arith) ∙ h .last-at,
+        over-at (pair-numbers ps) (found .pairs) (pos 0) (numbers-a-pair * k + 1) (omega arith) ∙ h .worst-at,
+      )
+      refl
+
+  pub pairs-read : pairs-in (length ps) left ≡ ps
+  unfolding pairs-in
+  pairs-read =
+      let m = table-length (pair-in left) (length ps) in
+      ext-getD no-pair (table (pair-in left) (length ps)) ps m
+      (λ k l. let u : k < length ps = omega (arith, l, m) in table-at (pair-in left) no-pair (length ps) k u ∙ pair-read k u)
+
+  module _ (trains : length (x .train) ≡ s .orders) (departures : length (x .departure) ≡ s .trains) (arrivals : length (x .arrival) ≡ s .trains) where
+    -- a column of times, read at every second place
+    column : (l : List ℕ) (f : ℕ → ℕ) → length l ≡ s .trains → ((m : ℕ) → m < s .trains → f m ≡ nth l (suc m)) → table f (s .trains) ≡ l
+    column l f e h =
+        ext-getD 0 (table f (s .trains)) l (table-length f (s .trains) ∙ sym e)
+        (λ m k. let u : m < s .trains = omega (arith, k, table-length f (s .trains)) in
+        let v : suc m - 1 ≡ m = omega arith in
+        table-at f 0 (s .trains) m u ∙ h m u ∙ ap (at l) v)
+
+    abbrev written : List ℕ
+    written = time-numbers (x .departure) (x .arrival) (s .trains)
+
+    written-at : (k : ℕ) → k < numbers-a-train * s .trains → at (over written (found .times)) k ≡ at written k
+    written-at k l = over-at written (found .times) 0 k (omega (arith, time-numbers-length (x .departure) (x .arrival) (s .trains)))
+
+    pub plan-read : plan-in s left ≡ x
+    unfolding plan-in areas-after
+    plan-read =
+        let times = times-found (x .departure) (x .arrival) (s .trains) in
+        rw (
+          take-at (x .train) (drop (length (x .train)) (found .trains)) (s .orders) trains,
+          column (x .departure) (λ m. at (left .times) (numbers-a-train * m)) departures
+              (λ m l. written-at (numbers-a-train * m) (omega arith) ∙ times m l .departure-at),
+          column (x .arrival) (λ m. at (left .times) (numbers-a-train * m + 1)) arrivals
+              (λ m l. written-at (numbers-a-train * m + 1) (omega arith) ∙ times m l .arrival-at),
+        )
+        refl

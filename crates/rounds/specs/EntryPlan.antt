@@ -1,0 +1,18 @@
+-- WHAT HOLDS OF EACH RECORDED ENTRY (proved in InvariantLaws.antt).
+use mathlib.Core.Path.{_≡_}
+use Prim.Native.Nat.{ℕ, _≤_}
+use lib.ListN.{length}
+use Rattle.numbers.specs.Counting.{nth}
+use Rattle.model.specs.Sheet.{Sheet}
+use Rattle.model.specs.Schedule.{Schedule}
+use Rattle.model.specs.Arrival.{arrival}
+use Rattle.model.specs.Lateness.{pairOf}
+use Rattle.rounds.specs.Recording.{Entry}
+
+-- "record the pair (F_q, z) and this plan": the plan is a schedule, with the model's arrivals, and the pair is its own
+pub record EntryPlan (s : Sheet) (e : Entry) : Type 0 where
+  pub schedule : Schedule s (e .plan .train) (e .plan .departure)
+  -- one arrival a train, as the model has it
+  pub arrives : length (e .plan .arrival) ≡ s .trains
+  pub arrivals : (i : ℕ) → 1 ≤ i → i ≤ s .trains → nth (e .plan .arrival) i ≡ arrival (s .paths) (nth (e .plan .departure)) i
+  pub pair : pairOf s (e .plan .train) (e .plan .departure) ≡ e .pair

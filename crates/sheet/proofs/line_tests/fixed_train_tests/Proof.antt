@@ -1,0 +1,12 @@
+-- `fixed_train_tests` meets its contract: its tests are the definition's. Assumes nothing.
+use Rattle.sheet.specs.Tests.{fixedTrainTests}
+use borrow.Author.Needs.{needs}
+use Rattle.sheet.proofs.line_tests.fixed_train_tests.Statement.{statement}
+use Rattle.sheet.proofs.line_tests.fixed_train_tests.Tie as tie
+
+returns : tie.Need-returns
+unfolding fixedTrainTests
+returns c = rw (c .before .before .fixed-train-in-range .ensures, c .before .fixed-train-in-order .ensures)
+
+pub fixed-train-tests-spec : {M : Type 1} → statement M
+fixed-train-tests-spec = tie.close (tie.spec (λ c κs. search needs) (λ c κs. search needs) returns)

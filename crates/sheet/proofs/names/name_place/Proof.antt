@@ -1,0 +1,25 @@
+-- `name_place` meets its contract: the two tests are the definition's. Assumes nothing.
+use mathlib.Core.Path.{refl}
+use borrow.Author.Tests.{le-leb, lt-leb}
+use Rattle.sheet.specs.OrderNames.{nameAt}
+use borrow.Author.Needs.{needs}
+use Rattle.sheet.proofs.names.name_place.Statement.{statement}
+use Rattle.sheet.proofs.names.name_place.Tie as tie
+
+returns : tie.Need-returns
+unfolding nameAt
+returns c = simp (lt-leb _ _ (c .if1 .taken)) refl
+
+returns-2 : tie.Need-returns-2
+unfolding nameAt
+returns-2 c = simp (le-leb _ _ (c .before .if1 .left), lt-leb _ _ (c .if2 .taken)) refl
+
+returns-3 : tie.Need-returns-3
+unfolding nameAt
+returns-3 c = simp (le-leb _ _ (c .before .before .before .if1 .left), le-leb _ _ (c .before .before .if2 .left)) refl
+
+pub name-place-spec : {M : Type 1} → statement M
+name-place-spec =
+    tie.close
+    (tie.spec
+    returns returns-2 (λ c. search needs) (λ c. search needs) (λ c. search needs) (λ c. search needs) returns-3)

@@ -1,0 +1,33 @@
+-- DOCUMENT 01, "THE SHEET": WHAT A READING CALL PROMISES, in the numbers of its table.
+use mathlib.Core.Path.{_≡_}
+use mathlib.Core.Bool.{Bool, true, false, _||_}
+use mathlib.Core.List.{List}
+use Prim.Native.Nat.{ℕ}
+use lib.Dec.{eqb}
+use lib.ListN.{length}
+use Rattle.model.specs.Sheet.{Sheet}
+use Rattle.model.specs.Limits.{Inside, inside, _–_}
+use Rattle.model.specs.Refusal.{number, returned}
+use Rattle.model.specs.Admission.{Admitted}
+use Rattle.model.specs.declared.Refusal.{Refusal}
+use Rattle.model.specs.declared.Admission.{Admission}
+use Rattle.model.specs.declared.Admission.the-variants.{Granted, Refused}
+
+-- the numbers of the table that return a "line number from 1": 1, 2, 3, 4 and 6
+abbrev pub tells-line : ℕ → Bool
+tells-line number = inside (1 – 4) number || eqb number 6
+
+-- what a refusal of a text with so many bytes says; a text has no more lines than bytes
+pub record TextRefusal (bytes : ℕ) (r : Refusal) : Type 0 where
+  pub numbered : Inside (1 – 7) (number r)
+  pub line : tells-line (number r) ≡ true → Inside (1 – bytes) (returned r)
+  pub no-line : tells-line (number r) ≡ false → returned r ≡ 0
+
+-- A READING CALL gives what the definition gives for the text, and says of the text and of the sheet in it
+pub record ReadingCall {R : Type 0} (text : List ℕ) (defined given : R) (admission : Admission) (sheet : Sheet) : Type 0 where
+  pub equal : given ≡ defined
+  -- what is read passes every test of a planning call
+  pub admitted : admission ≡ Granted → Admitted sheet
+  pub refused : (r : Refusal) → admission ≡ Refused r → TextRefusal (length text) r
+  -- "no sheet is given"
+  pub no-sheet : (r : Refusal) → admission ≡ Refused r → (sheet .orders ≡ 0) × (sheet .trains ≡ 0)

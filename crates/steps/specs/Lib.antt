@@ -1,0 +1,10 @@
+pub mod Ranks
+pub mod LoadingStepLaws
+pub mod RankLaws
+pub mod Columns
+pub mod ColumnLaws
+pub mod Timed
+pub mod TimingStepLaws
+pub mod Recorded
+pub mod RecordingStepLaws
+pub mod LoweringStepLaws
