@@ -47,11 +47,11 @@ pair-numbers-small (p ∷ ps) h (suc zero) l = omega (arith, h 0 (omega arith) .
 pair-numbers-small (p ∷ ps) h (suc (suc m)) l = pair-numbers-small ps (λ k u. h (suc k) (omega arith)) m (omega arith)
 
 -- what bounds the elements of two lists bounds those of both together
-both-small : (front back : List ℕ) (top : ℕ) → ((k : ℕ) → k < length front → at front k < top) → ((k : ℕ) → k < length back → at back k < top)
-    → (k : ℕ) → k < length (front ++ back) → at (front ++ back) k < top
-both-small [] back top h g k l = g k l
-both-small (x ∷ front) back top h g zero l = h 0 (omega arith)
-both-small (x ∷ front) back top h g (suc k) l = both-small front back top (λ m u. h (suc m) (omega arith)) g k (omega arith)
+both-small : (ahead behind : List ℕ) (top : ℕ) → ((k : ℕ) → k < length ahead → at ahead k < top) → ((k : ℕ) → k < length behind → at behind k < top)
+    → (k : ℕ) → k < length (ahead ++ behind) → at (ahead ++ behind) k < top
+both-small [] behind top h g k l = g k l
+both-small (x ∷ ahead) behind top h g zero l = h 0 (omega arith)
+both-small (x ∷ ahead) behind top h g (suc k) l = both-small ahead behind top (λ m u. h (suc m) (omega arith)) g k (omega arith)
 
 time-numbers-small : (departure arrival : List ℕ) (q : ℕ)
     → ((i : ℕ) → 1 ≤ i → i ≤ q → (nth departure i < 1000000000) × (nth arrival i < 1000000000))

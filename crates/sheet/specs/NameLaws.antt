@@ -1,13 +1,16 @@
 -- A NAME THAT IS GIVEN BACK LIES IN THE TEXT AND HAS AT MOST 12 BYTES. Assumes nothing.
+use mathlib.Core.Path.{_≡_}
 use mathlib.Core.List.{List}
-use Prim.Native.Nat.{ℕ, _+_, _-_, _≤_}
+use Prim.Native.Nat.{ℕ, _+_, _-_, _≤_, _<_}
 use native.Mathlib.Omega.{arith}
+use lib.Dec.{leb}
 use lib.ListN.{length}
-use Rattle.model.specs.Limits.{inside, _–_}
+use borrow.Author.Tests.{le-leb, lt-leb}
+use Rattle.model.specs.Limits.{inside, _–_, order-counts}
 use Rattle.model.specs.declared.Form.{Form}
 use Rattle.sheet.specs.FieldLaws.{inside-means}
 use Rattle.sheet.specs.LineLaws.{by-test}
-use Rattle.sheet.specs.OrderNames.{Span, NamesLie, nameAt, nameIn, namesIn}
+use Rattle.sheet.specs.OrderNames.{Span, NamesLie, no-bytes, nameAt, within, nameIn, namesIn}
 use Rattle.sheet.specs.TextLaws.{text-good}
 use Rattle.sheet.specs.declared.NamePlaces.{NamePlaces}
 
@@ -21,8 +24,22 @@ short-name text p h j =
     (λ e.
     let there = inside-means (1 – (p .count)) j e in
     let name = h .names (j - 1) (omega (arith, there .0, there .1)) in
-    (name .lies, name .size .1))
+    by-test (Short text) (leb j (order-counts .most)) (λ u. (name .lies, name .size .1)) (λ u. (omega arith, omega arith)))
     (λ e. (omega arith, omega arith))
+
+-- ---- a span as a part of a text
+
+pub within-lies : (text : List ℕ) (s : Span) → s .start + s .long ≤ length text → within text s ≡ s
+unfolding within
+within-lies text s h = rw (le-leb (s .start + s .long) (length text) h)
+
+pub within-not : (text : List ℕ) (s : Span) → length text < s .start + s .long → within text s ≡ no-bytes
+unfolding within
+within-not text s h = rw (lt-leb (s .start + s .long) (length text) h)
+
+-- the names of a text lie in it
+pub name-within : (text : List ℕ) (p : NamePlaces) → NamesLie text p → (j : ℕ) → within text (nameAt p j) ≡ nameAt p j
+name-within text p h j = within-lies text (nameAt p j) (short-name text p h j .0)
 
 pub names-lie : (form : Form) (text : List ℕ) → NamesLie text (namesIn form text)
 unfolding namesIn

@@ -5,7 +5,8 @@ use mathlib.Core.Bool.{cond}
 use mathlib.Core.List.{List}
 use Prim.Native.Nat.{ℕ, _+_, _≤_, _<_}
 use denote.Ref.{RefT}
-use lib.ListN.{take, drop}
+use lib.Dec.{leb}
+use lib.ListN.{length, take, drop}
 use Rattle.numbers.specs.Counting.{at, nth}
 use Rattle.model.specs.Limits.{inside, _–_, order-counts}
 use Rattle.sheet.specs.Names.{NameAt}
@@ -18,6 +19,9 @@ use Rattle.sheet.specs.declared.NamePlaces.{NamePlaces}
 pub record Span : Type 0 where
   pub start : ℕ
   pub long : ℕ
+
+abbrev pub no-bytes : Span
+no-bytes = record { start = 0; long = 0 }
 
 -- `part` is that very part of `text`: it stands there in memory, and has those bytes
 pub record IsPart (text part : RefT (List ℕ)) (s : Span) : Type 0 where
@@ -35,9 +39,14 @@ pub record NamesLie (text : List ℕ) (p : NamePlaces) : Type 0 where
   pub few : p .count ≤ order-counts .most
   pub names : (j : ℕ) → j < p .count → NameAt text (at (p .start) j) (at (p .length) j)
 
--- order j's name, the empty part if there is no such order
+-- order j's name, the empty part if there is no such order; no sheet has more than 200 orders
 unfoldable pub nameAt : NamePlaces → ℕ → Span
-nameAt p j = cond (inside (1 – (p .count)) j) (record { start = nth (p .start) j; long = nth (p .length) j }) (record { start = 0; long = 0 })
+nameAt p j =
+    cond (inside (1 – (p .count)) j) (cond (leb j (order-counts .most)) (record { start = nth (p .start) j; long = nth (p .length) j }) no-bytes) no-bytes
+
+-- a span as a part of a text; the empty part if it does not lie in the text, as every name of the text does
+unfoldable pub within : List ℕ → Span → Span
+within text s = cond (leb (s .start + s .long) (length text)) s no-bytes
 
 unfoldable pub nameIn : Form → List ℕ → ℕ → Span
 unfolding namesIn nameAt

@@ -1,8 +1,10 @@
 -- `lines::order_lines` meets its contract: the loop's invariant is that the lines passed are put. Assumes nothing.
-use Prim.Native.Nat.{_≤_, _-_}
-use mathlib.Core.Path.{_≡_, refl}
+use Prim.Native.Nat.{_≤_, _+_, _-_}
+use mathlib.Core.Path.{_≡_, refl, ap, _∙_}
 use native.Mathlib.Omega.{arith}
-use lib.ListN.{length}
+use lib.ListN.{length, take, drop}
+use Rattle.sheet.specs.OrderNames.{Span}
+use Rattle.sheet.specs.NameLaws.{name-within}
 use Rattle.printer.specs.Writing.{state, pass}
 use Rattle.printer.specs.WritingLaws.{pass-more}
 use Rattle.printer.specs.Lines.{order-lines}
@@ -29,8 +31,10 @@ loop-again c =
     let put = c .before .before in
     let part = put .before .before .before in
     let l = part .before .before in
-    let a = l .before .before .before .before .args in
-    let line = rw (part .name-part .ensures .bytes) at (put .order-line .ensures) in
+    let start = l .before .before .before .before in
+    let a = start .args in
+    let name = ap (λ (s : Span). take (s .long) (drop (s .start) (a .text .now))) (name-within (a .text .now) (a .names) (start .pre) (l .loop .i + 1)) in
+    let line = rw (part .name-part .ensures .bytes ∙ name) at (put .order-line .ensures) in
     (omega arith, omega arith, pass-more _ _ _ _ (order-next (name-by (a .text .now) (a .names)) (a .trains .now) (l .loop .i)) (l .loop .inv .2) line)
 
 returns : tie.Need-returns Inv-loop μ-loop
@@ -43,5 +47,5 @@ pub order-lines-spec : {M : Type 1} → statement M
 order-lines-spec =
     tie.close
     (tie.spec
-    Inv-loop μ-loop loop-holds (λ c. search needs) (λ c κs. c .before .before .before .before .before .pre) (λ c. search needs)
+    Inv-loop μ-loop loop-holds (λ c. search needs) (λ c κs. search needs) (λ c. search needs)
     (λ c κs. search needs) (λ c. search needs) loop-again (λ c. search needs) returns)
