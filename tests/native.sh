@@ -1,5 +1,6 @@
 #!/bin/sh
-# The tests in Rust and C over the static library: the Rust package native/, the C example, and a short run of the benchmark.
+# The tests in Rust and C. First the independent package native/, which needs no static library; then, over the static library, the package
+# binding/, the C example, and a short run of the benchmark.
 # The last line counts them all; the exit status is 0 only if none failed.
 set -u
 cd "$(dirname "$0")/.." || exit 2
@@ -25,14 +26,30 @@ one() {
     fi
 }
 
-# rt proves only what has changed, so this is quick where the library is up to date
-library() {
-    rt staticlib capi >"$work/staticlib" 2>&1 && [ -f "$library" ] || { tail -n 20 "$work/staticlib"; return 1; }
+# package NAME: its layout, its lints and its tests
+package() {
+    one "$1 layout" in_layout "$1"
+    one "$1 lints" without_warning "$1"
+    one "$1 tests stand in tests/" no_test_in_src "$1"
+    rust_tests "$1"
 }
 
-# the tests of the package, added up from cargo's own result lines; a failure that no such line tells counts as one
+in_layout() {
+    (cd "$1" && cargo fmt --check)
+}
+
+without_warning() {
+    (cd "$1" && cargo clippy -q -j1 --offline --all-targets -- -D warnings)
+}
+
+# a test in src/ would not be run: Cargo.toml says test = false there
+no_test_in_src() {
+    ! grep -rn '#\[test\]' "$1/src"
+}
+
+# the tests of a package, added up from cargo's own result lines; a failure that no such line tells counts as one
 rust_tests() {
-    (cd native && cargo test -j1 --release --offline --no-fail-fast -- --nocapture) >"$work/cargo" 2>&1
+    (cd "$1" && cargo test -j1 --release --offline --no-fail-fast -- --nocapture) >"$work/cargo" 2>&1
     status=$?
     grep -E '^(listing|stored sheets|test result|differs|error)|FAILED|panicked' "$work/cargo"
     counts=$(sed -n 's/^test result: .* \([0-9][0-9]*\) passed; \([0-9][0-9]*\) failed;.*/\1 \2/p' "$work/cargo")
@@ -46,6 +63,11 @@ rust_tests() {
     failed=$((failed + bad))
 }
 
+# rt proves only what has changed, so this is quick where the library is up to date
+library() {
+    rt staticlib capi >"$work/staticlib" 2>&1 && [ -f "$library" ] || { tail -n 20 "$work/staticlib"; return 1; }
+}
+
 c_example() {
     cc -std=c99 -Wall -Wextra -Werror -pedantic -I include examples/plan_a.c "$library" -o "$work/plan_a" &&
         "$work/plan_a" >"$work/plan_a.out" &&
@@ -54,14 +76,15 @@ c_example() {
 
 # every stored hard sheet is timed, both planners agree on pairs and rounds, and ours takes at most 1.5 times as long on each
 benchmark() {
-    (cd native && cargo run -q -j1 --release --offline --bin bench -- 5) >"$work/bench" 2>&1
+    (cd binding && cargo run -q -j1 --release --offline --bin bench -- 5) >"$work/bench" 2>&1
     status=$?
     cat "$work/bench"
     [ "$status" -eq 0 ] && tail -n 1 "$work/bench" | grep -q '^bench: .* of [1-9][0-9]* ratios at most 1.5'
 }
 
+package native
 one "static library" library
-rust_tests
+package binding
 one "C example" c_example
 one "benchmark" benchmark
 

@@ -1,130 +1,137 @@
 //! Brute force for small sheets: every loading, and the best list of pairs.
 
-use crate::sheet::*;
+use crate::limits::MOST_TRAINS;
+use crate::plan::Pair;
+use crate::sheet::{Orders, Paths, Sheet, Windows};
 use std::collections::BTreeMap;
 
-/// A pair: last arrival, worst weighted lateness.
-pub type Front = Vec<(i64, i64)>;
-
 /// For each last arrival the least worst lateness seen.
-type Seen = BTreeMap<i64, i64>;
+type Seen = BTreeMap<u32, i64>;
+
+/// One number a train; behind the last train 0.
+type Row = [u32; MOST_TRAINS];
 
 /// The front over all loadings with earliest departures; empty if there is no schedule.
-pub fn window_front(sheet: &WindowSheet) -> Front {
+pub fn front(sheet: &Sheet) -> Vec<Pair> {
     let mut seen = Seen::new();
-    each_loading(&sheet.orders, &sheet.capacity, &mut |train| {
-        let mut departure = Vec::new();
-        for wish in releases(&sheet.orders, train, sheet.capacity.len()) {
-            let behind = departure.last().map_or(0, |ahead| ahead + i64::from(sheet.gap));
-            match least_instant(sheet, wish.max(behind)) {
-                Some(instant) => departure.push(instant),
-                None => return,
-            }
+    each_loading(sheet, &mut |train| {
+        if let Some(arrival) = earliest_arrivals(sheet, &greatest_releases(&sheet.orders, train)) {
+            see(&mut seen, sheet, train, &arrival);
         }
-        see(&mut seen, &sheet.orders, train, &arrivals(sheet, &departure));
     });
-    front(seen)
+    front_of(seen)
 }
 
-/// The front over all loadings and all departures.
-pub fn window_front_all_departures(sheet: &WindowSheet) -> Front {
+/// The front over all loadings and all departures; by timetable there are no others.
+pub fn front_of_all_departures(sheet: &Sheet) -> Vec<Pair> {
+    let Paths::Windows(windows) = &sheet.paths else { return front(sheet) };
     let mut seen = Seen::new();
-    each_loading(&sheet.orders, &sheet.capacity, &mut |train| {
-        let wishes = releases(&sheet.orders, train, sheet.capacity.len());
-        each_departure(sheet, &wishes, &mut Vec::new(), &mut |departure| {
-            see(&mut seen, &sheet.orders, train, &arrivals(sheet, departure));
+    each_loading(sheet, &mut |train| {
+        let greatest = greatest_releases(&sheet.orders, train);
+        each_departure(windows, &greatest, &mut Vec::new(), &mut |departure| {
+            see(&mut seen, sheet, train, &arrivals(windows, departure));
         });
     });
-    front(seen)
-}
-
-pub fn timetable_front(sheet: &TimetableSheet) -> Front {
-    let arrival: Vec<i64> = sheet.arrival.iter().map(|&f| f.into()).collect();
-    let mut seen = Seen::new();
-    each_loading(&sheet.orders, &sheet.capacity, &mut |train| {
-        let wishes = releases(&sheet.orders, train, sheet.capacity.len());
-        if wishes.iter().zip(&sheet.departure).all(|(&wish, &s)| wish <= s.into()) {
-            see(&mut seen, &sheet.orders, train, &arrival);
-        }
-    });
-    front(seen)
+    front_of(seen)
 }
 
 /// Calls `visit` with the train (from 0) of each order, for every loading.
-fn each_loading(orders: &Orders, capacity: &[u32], visit: &mut impl FnMut(&[usize])) {
-    fn fill(j: usize, train: &mut [usize], room: &mut [u32], visit: &mut impl FnMut(&[usize])) {
-        if j == train.len() {
-            return visit(train);
-        }
-        for i in 0..room.len() {
-            if room[i] > 0 {
-                room[i] -= 1;
-                train[j] = i;
-                fill(j + 1, train, room, visit);
-                room[i] += 1;
-            }
+fn each_loading(sheet: &Sheet, visit: &mut impl FnMut(&[usize])) {
+    let (n, _) = sheet.size();
+    assert_eq!(sheet.capacity.iter().sum::<u32>() as usize, n, "every train is full");
+    load_from(0, &mut vec![0; n], &mut sheet.capacity.clone(), visit);
+}
+
+/// Loads the orders from the one at index `j` on, in every way.
+fn load_from(j: usize, train: &mut [usize], places: &mut [u32], visit: &mut impl FnMut(&[usize])) {
+    if j == train.len() {
+        return visit(train);
+    }
+    for i in 0..places.len() {
+        if places[i] > 0 {
+            places[i] -= 1;
+            train[j] = i;
+            load_from(j + 1, train, places, visit);
+            places[i] += 1;
         }
     }
-    assert_eq!(capacity.iter().sum::<u32>() as usize, orders.len());
-    fill(0, &mut vec![0; orders.len()], &mut capacity.to_vec(), visit);
 }
 
 /// Calls `visit` with every row of permitted departures.
-fn each_departure(sheet: &WindowSheet, wishes: &[i64], row: &mut Vec<i64>, visit: &mut impl FnMut(&[i64])) {
-    if row.len() == wishes.len() {
+fn each_departure(windows: &Windows, greatest: &Row, row: &mut Vec<u32>, visit: &mut impl FnMut(&[u32])) {
+    if row.len() == windows.running.len() {
         return visit(row);
     }
-    let behind = row.last().map_or(0, |ahead| ahead + i64::from(sheet.gap));
-    for (&from, &to) in sheet.window_from.iter().zip(&sheet.window_to) {
-        for instant in i64::from(from)..=i64::from(to) {
-            if instant >= behind && instant >= wishes[row.len()] {
+    let behind = row.last().map_or(0, |ahead| ahead + windows.gap);
+    for (&from, &to) in windows.from.iter().zip(&windows.to) {
+        for instant in from..=to {
+            if instant >= behind && instant >= greatest[row.len()] {
                 row.push(instant);
-                each_departure(sheet, wishes, row, visit);
+                each_departure(windows, greatest, row, visit);
                 row.pop();
             }
         }
     }
 }
 
-/// The greatest release on each train.
-fn releases(orders: &Orders, train: &[usize], q: usize) -> Vec<i64> {
-    let mut greatest = vec![0; q];
-    for (&i, &r) in train.iter().zip(&orders.release) {
-        greatest[i] = greatest[i].max(i64::from(r));
+fn greatest_releases(orders: &Orders, train: &[usize]) -> Row {
+    let mut greatest = [0; MOST_TRAINS];
+    for (&i, &release) in train.iter().zip(&orders.release) {
+        greatest[i] = release.max(greatest[i]);
     }
     greatest
 }
 
-fn least_instant(sheet: &WindowSheet, wish: i64) -> Option<i64> {
-    let windows = sheet.window_from.iter().zip(&sheet.window_to);
-    windows.filter(|(_, &to)| wish <= to.into()).map(|(&from, _)| wish.max(from.into())).min()
+/// The arrivals with earliest departures; none if a train cannot depart.
+fn earliest_arrivals(sheet: &Sheet, greatest: &Row) -> Option<Row> {
+    let q = sheet.capacity.len();
+    match &sheet.paths {
+        Paths::Windows(windows) => {
+            let mut departure = [0; MOST_TRAINS];
+            for i in 0..q {
+                let behind = if i == 0 { 0 } else { departure[i - 1] + windows.gap };
+                departure[i] = least_instant(windows, greatest[i].max(behind))?;
+            }
+            Some(arrivals(windows, &departure[..q]))
+        }
+        Paths::Timetable(timetable) => {
+            if greatest.iter().zip(&timetable.departure).any(|(release, departure)| release > departure) {
+                return None;
+            }
+            let mut arrival = [0; MOST_TRAINS];
+            arrival[..q].copy_from_slice(&timetable.arrival);
+            Some(arrival)
+        }
+    }
 }
 
-fn arrivals(sheet: &WindowSheet, departure: &[i64]) -> Vec<i64> {
-    let mut arrival: Vec<i64> = Vec::new();
-    for (s, &p) in departure.iter().zip(&sheet.running) {
-        let alone = s + i64::from(p);
-        arrival.push(arrival.last().map_or(alone, |ahead| alone.max(ahead + i64::from(sheet.gap))));
+fn least_instant(windows: &Windows, wish: u32) -> Option<u32> {
+    let open = windows.from.iter().zip(&windows.to).filter(|(_, &to)| wish <= to);
+    open.map(|(&from, _)| wish.max(from)).min()
+}
+
+fn arrivals(windows: &Windows, departure: &[u32]) -> Row {
+    let mut arrival = [0; MOST_TRAINS];
+    for (i, instant) in departure.iter().enumerate() {
+        let alone = instant + windows.running[i];
+        arrival[i] = if i == 0 { alone } else { alone.max(arrival[i - 1] + windows.gap) };
     }
     arrival
 }
 
-fn see(seen: &mut Seen, orders: &Orders, train: &[usize], arrival: &[i64]) {
-    let lateness = |j: usize| i64::from(orders.weight[j]) * (arrival[train[j]] - i64::from(orders.due[j]));
-    let worst = (0..train.len()).map(lateness).max().expect("an order");
-    let last = *arrival.last().expect("a train");
-    seen.entry(last).and_modify(|least| *least = worst.min(*least)).or_insert(worst);
+fn see(seen: &mut Seen, sheet: &Sheet, train: &[usize], arrival: &Row) {
+    let (n, q) = sheet.size();
+    let worst = (0..n).map(|j| sheet.orders.lateness(j, arrival[train[j]])).max().expect("an order");
+    seen.entry(arrival[q - 1]).and_modify(|least| *least = worst.min(*least)).or_insert(worst);
 }
 
 /// The pairs that no other pair beats or equals in both.
-fn front(seen: Seen) -> Front {
-    let mut best = i64::MAX;
-    seen.into_iter()
-        .filter(|&(_, worst)| {
-            worst < best && {
-                best = worst;
-                true
-            }
-        })
-        .collect()
+fn front_of(seen: Seen) -> Vec<Pair> {
+    let mut front: Vec<Pair> = Vec::new();
+    for (arrival, lateness) in seen {
+        if front.last().is_none_or(|last| lateness < last.lateness) {
+            front.push(Pair { arrival, lateness });
+        }
+    }
+    front
 }

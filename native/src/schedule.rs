@@ -1,55 +1,58 @@
 //! Whether a plan is a schedule of its sheet, straight from the model, and the pair that it has.
 
-use crate::planner::{Plan, Times};
-use crate::sheet::{Orders, TimetableSheet, WindowSheet};
+use crate::plan::{Pair, Plan, Times};
+use crate::sheet::{Paths, Sheet, Timetable, Windows};
 
-/// The pair of last arrival and worst weighted lateness; none if the plan is no schedule with the model's arrivals.
-pub fn window_pair(sheet: &WindowSheet, plan: &Plan) -> Option<(i64, i64)> {
-    let in_window = |times: &Times| {
-        sheet.window_from.iter().zip(&sheet.window_to).any(|(from, to)| (*from..=*to).contains(&times.departure))
-    };
-    let follows = |i: usize| {
-        let alone = plan.times[i].departure + sheet.running[i];
-        if i == 0 {
-            return plan.times[i].arrival == alone;
-        }
-        let ahead = plan.times[i - 1];
-        plan.times[i].departure >= ahead.departure + sheet.gap
-            && plan.times[i].arrival == alone.max(ahead.arrival + sheet.gap)
-    };
-    let timed = plan.times.iter().all(in_window) && (0..plan.times.len()).all(follows);
-    if timed {
-        loaded_pair(&sheet.orders, &sheet.capacity, plan)
-    } else {
-        None
-    }
-}
-
-pub fn timetable_pair(sheet: &TimetableSheet, plan: &Plan) -> Option<(i64, i64)> {
-    let fixed = sheet.departure.iter().zip(&sheet.arrival).map(|(&departure, &arrival)| Times { departure, arrival });
-    if fixed.eq(plan.times.iter().copied()) {
-        loaded_pair(&sheet.orders, &sheet.capacity, plan)
-    } else {
-        None
-    }
-}
-
-/// What the two forms share: every order rides one train, released in time, and every train is full.
-fn loaded_pair(orders: &Orders, capacity: &[u32], plan: &Plan) -> Option<(i64, i64)> {
-    if plan.train.len() != orders.len() || plan.times.len() != capacity.len() {
+/// The plan's own pair; none if the plan is no schedule with the model's arrivals.
+pub fn pair_of(sheet: &Sheet, plan: &Plan) -> Option<Pair> {
+    if (plan.train_of_order.len(), plan.times.len()) != sheet.size() {
         return None;
     }
-    let mut load = vec![0; capacity.len()];
+    let timed = match &sheet.paths {
+        Paths::Windows(windows) => timed_in_windows(windows, &plan.times),
+        Paths::Timetable(timetable) => timed_by_timetable(timetable, &plan.times),
+    };
+    if timed && every_train_full(&sheet.capacity, plan) {
+        loaded_pair(sheet, plan)
+    } else {
+        None
+    }
+}
+
+fn timed_in_windows(windows: &Windows, times: &[Times]) -> bool {
+    let in_window =
+        |train: &Times| windows.from.iter().zip(&windows.to).any(|(from, to)| (*from..=*to).contains(&train.departure));
+    let follows = |i: usize| {
+        let alone = times[i].departure + windows.running[i];
+        if i == 0 {
+            return times[i].arrival == alone;
+        }
+        let ahead = times[i - 1];
+        times[i].departure >= ahead.departure + windows.gap
+            && times[i].arrival == alone.max(ahead.arrival + windows.gap)
+    };
+    times.iter().all(in_window) && (0..times.len()).all(follows)
+}
+
+fn timed_by_timetable(timetable: &Timetable, times: &[Times]) -> bool {
+    let fixed = timetable.departure.iter().zip(&timetable.arrival);
+    fixed.map(|(&departure, &arrival)| Times { departure, arrival }).eq(times.iter().copied())
+}
+
+fn every_train_full(capacity: &[u32], plan: &Plan) -> bool {
+    let load = |i: usize| plan.train_of_order.iter().filter(|&&train| usize::from(train) == i + 1).count();
+    (0..capacity.len()).all(|i| load(i) == capacity[i] as usize)
+}
+
+/// None if an order rides no train, or one that departs before its release.
+fn loaded_pair(sheet: &Sheet, plan: &Plan) -> Option<Pair> {
     let mut worst = i64::MIN;
-    for (j, &train) in plan.train.iter().enumerate() {
-        let i = usize::from(train).checked_sub(1)?;
-        let times = plan.times.get(i)?;
-        if orders.release[j] > times.departure {
+    for (j, &train) in plan.train_of_order.iter().enumerate() {
+        let times = plan.times.get(usize::from(train).checked_sub(1)?)?;
+        if sheet.orders.release[j] > times.departure {
             return None;
         }
-        load[i] += 1;
-        worst = worst.max(i64::from(orders.weight[j]) * (i64::from(times.arrival) - i64::from(orders.due[j])));
+        worst = worst.max(sheet.orders.lateness(j, times.arrival));
     }
-    let last = plan.times.last()?.arrival;
-    (load == capacity).then_some((last.into(), worst))
+    Some(Pair { arrival: plan.times.last()?.arrival, lateness: worst })
 }

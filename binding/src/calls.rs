@@ -1,0 +1,153 @@
+//! The product's exported calls (include/joshkamber.h) behind safe functions. None of them asks anything of its arguments.
+
+use native::limits::{MOST_ORDERS, MOST_TRAINS, MOST_WINDOWS};
+
+/// Number 0: not refused.
+#[repr(C)]
+#[derive(Clone, Copy, Debug, PartialEq, Eq)]
+pub struct Cause {
+    pub number: usize,
+    pub returned: usize,
+}
+
+/// A sheet of the window form: columns with counts.
+#[repr(C)]
+#[derive(Clone, Copy, Debug, PartialEq, Eq)]
+pub struct WindowSheet {
+    pub gap: u32,
+    pub window_count: usize,
+    pub window_from: [u32; MOST_WINDOWS],
+    pub window_to: [u32; MOST_WINDOWS],
+    pub train_count: usize,
+    pub capacity: [u32; MOST_TRAINS],
+    pub running: [u32; MOST_TRAINS],
+    pub order_count: usize,
+    pub release: [u32; MOST_ORDERS],
+    pub due: [u32; MOST_ORDERS],
+    pub weight: [u32; MOST_ORDERS],
+}
+
+/// A sheet of the timetable form.
+#[repr(C)]
+#[derive(Clone, Copy, Debug, PartialEq, Eq)]
+pub struct TimetableSheet {
+    pub train_count: usize,
+    pub capacity: [u32; MOST_TRAINS],
+    pub departure: [u32; MOST_TRAINS],
+    pub arrival: [u32; MOST_TRAINS],
+    pub order_count: usize,
+    pub release: [u32; MOST_ORDERS],
+    pub due: [u32; MOST_ORDERS],
+    pub weight: [u32; MOST_ORDERS],
+}
+
+/// The sheet, or the cause beside an empty sheet.
+#[repr(C)]
+#[derive(Clone, Copy, Debug, PartialEq, Eq)]
+pub struct WindowsRead {
+    pub cause: Cause,
+    pub sheet: WindowSheet,
+}
+
+#[repr(C)]
+#[derive(Clone, Copy, Debug, PartialEq, Eq)]
+pub struct TimetableRead {
+    pub cause: Cause,
+    pub sheet: TimetableSheet,
+}
+
+/// Where a name starts in the text, and how many bytes it has; 0 and 0 if there is none.
+#[repr(C)]
+#[derive(Clone, Copy, Debug, PartialEq, Eq)]
+pub struct NamePlace {
+    pub start: usize,
+    pub length: usize,
+}
+
+/// How many pairs are listed and how many rounds were made, or the cause beside 0 and 0.
+#[repr(C)]
+#[derive(Clone, Copy, Debug, PartialEq, Eq)]
+pub struct Planning {
+    pub cause: Cause,
+    pub pairs: usize,
+    pub rounds: usize,
+}
+
+// A slice passes as a pointer, then a length.
+#[rustfmt::skip]
+extern "C" {
+    fn joshkamber_read_windows(text: *const u8, length: usize) -> WindowsRead;
+    fn joshkamber_read_timetable(text: *const u8, length: usize) -> TimetableRead;
+    fn joshkamber_name_in_windows(text: *const u8, length: usize, order: usize) -> NamePlace;
+    fn joshkamber_name_in_timetable(text: *const u8, length: usize, order: usize) -> NamePlace;
+    fn joshkamber_plan_windows(
+        sheet: WindowSheet, pairs: *mut i64, pairs_length: usize, train_of_order: *mut u8, train_of_order_length: usize,
+        times: *mut u32, times_length: usize,
+    ) -> Planning;
+    fn joshkamber_plan_timetable(
+        sheet: TimetableSheet, pairs: *mut i64, pairs_length: usize, train_of_order: *mut u8, train_of_order_length: usize,
+        times: *mut u32, times_length: usize,
+    ) -> Planning;
+}
+
+/// Reads a text of the window form.
+pub fn read_windows(text: &[u8]) -> WindowsRead {
+    // SAFETY: the pointer is not null and valid for as many bytes; the call only reads them, and keeps nothing.
+    unsafe { joshkamber_read_windows(text.as_ptr(), text.len()) }
+}
+
+/// Reads a text of the timetable form.
+pub fn read_timetable(text: &[u8]) -> TimetableRead {
+    // SAFETY: the pointer is not null and valid for as many bytes; the call only reads them, and keeps nothing.
+    unsafe { joshkamber_read_timetable(text.as_ptr(), text.len()) }
+}
+
+/// The place of an order's name in a text of the window form; orders are numbered from 1.
+pub fn name_in_windows(text: &[u8], order: usize) -> NamePlace {
+    // SAFETY: the pointer is not null and valid for as many bytes; the call only reads them, and takes any number.
+    unsafe { joshkamber_name_in_windows(text.as_ptr(), text.len(), order) }
+}
+
+/// The place of an order's name in a text of the timetable form.
+pub fn name_in_timetable(text: &[u8], order: usize) -> NamePlace {
+    // SAFETY: the pointer is not null and valid for as many bytes; the call only reads them, and takes any number.
+    unsafe { joshkamber_name_in_timetable(text.as_ptr(), text.len(), order) }
+}
+
+/// Plans a sheet of the window form. For n orders and q trains the areas have at least 2 n q, n and 2 q elements.
+pub fn plan_windows(sheet: &WindowSheet, pairs: &mut [i64], train_of_order: &mut [u8], times: &mut [u32]) -> Planning {
+    // SAFETY: the three pointers are not null, valid for reads and writes of as many elements, and lent for this call alone, so they do
+    // not overlap. The call writes in no other memory, keeps nothing, and tests the sheet and the lengths itself.
+    unsafe {
+        joshkamber_plan_windows(
+            *sheet,
+            pairs.as_mut_ptr(),
+            pairs.len(),
+            train_of_order.as_mut_ptr(),
+            train_of_order.len(),
+            times.as_mut_ptr(),
+            times.len(),
+        )
+    }
+}
+
+/// Plans a sheet of the timetable form, with areas as for `plan_windows`.
+pub fn plan_timetable(
+    sheet: &TimetableSheet,
+    pairs: &mut [i64],
+    train_of_order: &mut [u8],
+    times: &mut [u32],
+) -> Planning {
+    // SAFETY: as in `plan_windows`.
+    unsafe {
+        joshkamber_plan_timetable(
+            *sheet,
+            pairs.as_mut_ptr(),
+            pairs.len(),
+            train_of_order.as_mut_ptr(),
+            train_of_order.len(),
+            times.as_mut_ptr(),
+            times.len(),
+        )
+    }
+}

@@ -1,0 +1,69 @@
+//! The product as an implementation beside the independent one: the same calls, with the same types.
+
+use crate::areas::Areas;
+use crate::calls::{name_in_timetable, name_in_windows, read_timetable, read_windows, Cause, NamePlace, Planning};
+use crate::exported::ExportedSheet;
+use native::plan::{Pair, Plan, Times};
+use native::print::Implementation;
+use native::reader::Reading;
+use native::refusal::Refusal;
+use native::sheet::{Form, Sheet};
+use std::ops::Range;
+
+pub const PRODUCT: Implementation = Implementation { read, plan };
+
+fn passed(cause: Cause) -> Result<(), Refusal> {
+    match cause.number {
+        0 => Ok(()),
+        number => Err(Refusal { number, returned: cause.returned }),
+    }
+}
+
+/// The place of an order's name in a text taken as of this form.
+pub fn name_place(text: &[u8], form: Form, order: usize) -> Range<usize> {
+    let NamePlace { start, length } = match form {
+        Form::Windows => name_in_windows(text, order),
+        Form::Timetable => name_in_timetable(text, order),
+    };
+    start..start + length
+}
+
+fn read(text: &[u8], form: Form) -> Result<Reading, Refusal> {
+    let sheet: Sheet = match form {
+        Form::Windows => {
+            let read = read_windows(text);
+            passed(read.cause)?;
+            (&read.sheet).into()
+        }
+        Form::Timetable => {
+            let read = read_timetable(text);
+            passed(read.cause)?;
+            (&read.sheet).into()
+        }
+    };
+    let names = (1..=sheet.orders.len()).map(|order| name_place(text, form, order)).collect();
+    Ok(Reading { sheet, names })
+}
+
+fn plan(sheet: &Sheet) -> Result<Plan, Refusal> {
+    let (n, q) = sheet.size();
+    let mut areas = Areas::new(Areas::least(n, q));
+    let planning = ExportedSheet::from(sheet).plan_in(&mut areas);
+    passed(planning.cause)?;
+    Ok(plan_from(planning, n, q, &areas))
+}
+
+/// The plan that the first elements of the areas hold.
+pub fn plan_from(planning: Planning, n: usize, q: usize, areas: &Areas) -> Plan {
+    let pair = |numbers: &[i64]| {
+        let arrival = u32::try_from(numbers[0]).expect("an arrival is a time of day");
+        Pair { arrival, lateness: numbers[1] }
+    };
+    let times = |numbers: &[u32]| Times { departure: numbers[0], arrival: numbers[1] };
+    Plan {
+        pairs: areas.pairs.first(2 * planning.pairs).chunks(2).map(pair).collect(),
+        train_of_order: areas.train_of_order.first(n).to_vec(),
+        times: areas.times.first(2 * q).chunks(2).map(times).collect(),
+        rounds: planning.rounds,
+    }
+}

@@ -1,0 +1,66 @@
+//! Changes of a sheet in memory after which it may be refused.
+
+use native::limits::*;
+use native::rng::Rng;
+use native::sheet::{Orders, Paths, Sheet, Timetable, Windows};
+
+/// Values at or beside an end of some range.
+#[rustfmt::skip]
+const EDGES: [u32; 17] = [
+    0, 1, 2, MOST_CAPACITY - 1, MOST_CAPACITY, MOST_CAPACITY + 1, MOST_WEIGHT, MOST_WEIGHT + 1, MOST_GAP, MOST_GAP + 1, MOST_RUNNING,
+    MOST_RUNNING + 1, LAST_INSTANT, LAST_INSTANT + 1, LAST_ARRIVAL, LAST_ARRIVAL + 1, u32::MAX,
+];
+
+fn set_one(rng: &mut Rng, column: &mut [u32]) {
+    if !column.is_empty() {
+        let at = rng.index(column.len());
+        column[at] = rng.pick(&EDGES);
+    }
+}
+
+/// Columns of one kind get one row more or fewer, none, or as many as the limit and one more.
+fn resize(rng: &mut Rng, columns: &mut [&mut Vec<u32>], most: usize) {
+    let rows = columns[0].len();
+    let rows = rng.pick(&[0, rows.saturating_sub(1), rows + 1, rows + 1, most, most + 1]);
+    columns.iter_mut().for_each(|column| column.resize(rows, 1));
+}
+
+pub fn spoil(rng: &mut Rng, sheet: &mut Sheet) {
+    if rng.one_in(3) {
+        return spoil_orders(rng, &mut sheet.orders);
+    }
+    match &mut sheet.paths {
+        Paths::Windows(windows) => spoil_windows(rng, windows, &mut sheet.capacity),
+        Paths::Timetable(timetable) => spoil_timetable(rng, timetable, &mut sheet.capacity),
+    }
+}
+
+fn spoil_orders(rng: &mut Rng, Orders { release, due, weight }: &mut Orders) {
+    match rng.index(4) {
+        0 => resize(rng, &mut [release, due, weight], MOST_ORDERS),
+        1 => set_one(rng, release),
+        2 => set_one(rng, due),
+        _ => set_one(rng, weight),
+    }
+}
+
+fn spoil_windows(rng: &mut Rng, Windows { gap, from, to, running }: &mut Windows, capacity: &mut Vec<u32>) {
+    match rng.index(7) {
+        0 => *gap = rng.pick(&EDGES),
+        1 => set_one(rng, from),
+        2 => set_one(rng, to),
+        3 => set_one(rng, capacity),
+        4 => set_one(rng, running),
+        5 => resize(rng, &mut [from, to], MOST_WINDOWS),
+        _ => resize(rng, &mut [capacity, running], MOST_TRAINS),
+    }
+}
+
+fn spoil_timetable(rng: &mut Rng, Timetable { departure, arrival }: &mut Timetable, capacity: &mut Vec<u32>) {
+    match rng.index(4) {
+        0 => set_one(rng, capacity),
+        1 => set_one(rng, departure),
+        2 => set_one(rng, arrival),
+        _ => resize(rng, &mut [capacity, departure, arrival], MOST_TRAINS),
+    }
+}

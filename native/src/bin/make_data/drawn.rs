@@ -1,0 +1,80 @@
+//! Drawn sheets: hard ones, with many rounds or many pairs, and some of any kind.
+
+use crate::store::Store;
+use native::climb::climb;
+use native::draw::big;
+use native::ladder::{ladder_timetable, ladder_windows, Ladder};
+use native::limits::{MOST_ORDERS, MOST_TRAINS};
+use native::planner::plan;
+use native::rng::Rng;
+use native::sheet::{Form, Sheet, FORMS};
+
+/// Orders and trains of the hard sheets: the most there may be.
+const N: u32 = MOST_ORDERS as u32;
+const Q: usize = MOST_TRAINS;
+
+/// Of so many ladders the one with the most rounds and pairs is stored.
+const MOVING_TRIES: usize = 30;
+
+/// A climb starts above so many rounds, and takes so many steps.
+const START_ROUNDS: usize = 40;
+const CLIMB_STEPS: u32 = 60;
+
+pub fn store_hard(store: &mut Store) {
+    let mut rng = Rng::new(21);
+    store.group(500);
+    fixed_ladders(store, &mut rng);
+    moving_ladders(store, &mut rng);
+    for (form, name) in [(Form::Timetable, "climbed-timetable"), (Form::Windows, "climbed-window")] {
+        let start = find_planned(&mut rng, form, (N, Q), |rounds, _| rounds > START_ROUNDS);
+        store.planned_sheet(name, &climb(&mut rng, start, CLIMB_STEPS));
+    }
+}
+
+/// Ladders whose departures stay.
+fn fixed_ladders(store: &mut Store, rng: &mut Rng) {
+    for (name, release, stir, shuffled) in [
+        ("equal-releases", 0, 0, false),
+        ("shuffled", 2_000, 0, true),
+        ("shuffled-few-releases", 9, 0, true),
+        ("shuffled-stirred", 2_000, 60, true),
+    ] {
+        let ladder = Ladder { release, stir, shuffled };
+        store.planned_sheet(&format!("ladder-{name}-timetable"), &ladder_timetable(rng, N, Q, ladder));
+        store.planned_sheet(&format!("ladder-{name}-window"), &ladder_windows(rng, N, Q, ladder, release));
+    }
+}
+
+/// Ladders whose departures move with the loading.
+fn moving_ladders(store: &mut Store, rng: &mut Rng) {
+    for (name, release, stir, shuffled) in
+        [("moving", 30_000, 0, false), ("moving-shuffled", 9_000, 0, true), ("moving-stirred", 900, 60, true)]
+    {
+        let ladder = Ladder { release, stir, shuffled };
+        let tries = (0..MOVING_TRIES).map(|_| ladder_windows(rng, N, Q, ladder, 0));
+        let sheet = tries.max_by_key(|sheet| plan(sheet).map_or(0, |plan| plan.rounds * plan.pairs.len()));
+        store.planned_sheet(&format!("ladder-{name}-window"), &sheet.expect("a try"));
+    }
+}
+
+/// The first drawn sheet whose plan has the wanted counts of rounds and pairs.
+fn find_planned(rng: &mut Rng, form: Form, (n, q): (u32, usize), wanted: fn(usize, usize) -> bool) -> Sheet {
+    let mut sheets = std::iter::repeat_with(|| big(rng, form, n, q));
+    let found = sheets.find(|sheet| plan(sheet).is_ok_and(|plan| wanted(plan.rounds, plan.pairs.len())));
+    found.expect("there are sheets without end")
+}
+
+pub fn store_any(store: &mut Store) {
+    let mut rng = Rng::new(31);
+    store.group(700);
+    for size in [(9, 4), (50, 12), (200, 32)] {
+        for form in FORMS {
+            let (name, wanted): (_, fn(usize, usize) -> bool) = match form {
+                Form::Windows => ("window", |rounds, pairs| rounds > 3 && pairs > 1),
+                Form::Timetable => ("timetable", |rounds, _| rounds > 3),
+            };
+            let sheet = find_planned(&mut rng, form, size, wanted);
+            store.planned_sheet(&format!("random-{}-orders-{}-trains-{name}", size.0, size.1), &sheet);
+        }
+    }
+}

@@ -1,0 +1,34 @@
+//! Writes the stored test sheets: `make_data FOLDER [FOLDER OF GIVEN SHEETS]`.
+//! NNN-name.sheet is the text, NNN-name.plan what the independent implementation prints.
+//! Refusals are written here by hand and compared; given sheets keep their given plans.
+
+mod by_hand;
+mod bytes;
+mod drawn;
+mod limits;
+mod parts;
+mod searched;
+mod store;
+mod timetable_refusals;
+mod window_refusals;
+
+use std::path::Path;
+use store::Store;
+
+fn main() {
+    let args: Vec<String> = std::env::args().skip(1).collect();
+    let mut store = Store::new(args.first().expect("a folder to write to"));
+    by_hand::store_cases(&mut store);
+    window_refusals::store_all(&mut store);
+    timetable_refusals::store_all(&mut store);
+    limits::store_all(&mut store);
+    by_hand::store_all(&mut store);
+    searched::store_all(&mut store);
+    drawn::store_hard(&mut store);
+    bytes::store_all(&mut store);
+    drawn::store_any(&mut store);
+    if let Some(folder) = args.get(1) {
+        store.given(Path::new(folder));
+    }
+    println!("{} sheets", store.written());
+}

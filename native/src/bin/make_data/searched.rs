@@ -1,0 +1,64 @@
+//! Small sheets found by random search for what their rounds show.
+
+use crate::store::Store;
+use native::draw::small;
+use native::rng::Rng;
+use native::sheet::{Form, Sheet};
+use native::trace::{trace, Outcome, Trace};
+use Outcome::*;
+
+/// A search gives up after so many sheets.
+const MOST_TRIES: usize = 500_000;
+const SMALL_ORDERS: u32 = 9;
+
+/// A sheet's name, and what its rounds must show.
+type Wanted = (&'static str, fn(&Trace) -> bool);
+
+fn has(trace: &Trace, part: &[Outcome]) -> bool {
+    trace.outcomes.windows(part.len()).any(|outcomes| outcomes == part)
+}
+
+fn ends(trace: &Trace, part: &[Outcome]) -> bool {
+    trace.outcomes.ends_with(part)
+}
+
+const WINDOWS: [Wanted; 12] = [
+    ("replaced-three-times-then-listed", |t| has(t, &[Listed, Replaced, Replaced, Replaced, Listed])),
+    ("two-chains-of-replacements", |t| {
+        t.outcomes.split(|outcome| *outcome != Replaced).filter(|chain| chain.len() > 1).count() > 1
+    }),
+    ("replaced-after-nothing", |t| has(t, &[Listed, Nothing, Replaced])),
+    ("two-rounds-record-nothing-then-listed", |t| has(t, &[Nothing, Nothing, Listed])),
+    ("three-rounds-record-nothing", |t| has(t, &[Nothing, Nothing, Nothing])),
+    ("last-round-records-nothing", |t| ends(t, &[Listed, Nothing])),
+    ("stops-for-want-of-a-window-in-round-5", |t| t.outcomes.len() == 5 && ends(t, &[Stopped])),
+    ("stops-for-want-of-a-window-after-nothing", |t| ends(t, &[Nothing, Stopped])),
+    ("five-pairs", |t| t.pairs.len() == 5),
+    ("two-pairs-all-early", |t| t.pairs.len() >= 2 && t.pairs[0].lateness < 0),
+    ("pairs-from-late-to-early", |t| t.pairs.len() >= 3 && t.pairs[0].lateness > 0 && t.pairs[2].lateness < 0),
+    ("ten-rounds-one-pair", |t| t.outcomes.len() >= 10 && t.pairs.len() == 1),
+];
+
+// Each round of a timetable sheet records, since its arrivals are fixed.
+const TIMETABLE: [Wanted; 4] = [
+    ("replaced-five-times", |t| has(t, &[Replaced; 5])),
+    ("ten-rounds", |t| t.outcomes.len() >= 10),
+    ("stops-for-a-release-in-round-5", |t| t.outcomes.len() == 5 && ends(t, &[Stopped])),
+    ("ends-early-after-five-rounds", |t| t.outcomes.len() >= 5 && t.pairs[0].lateness < 0),
+];
+
+pub fn store_all(store: &mut Store) {
+    let mut rng = Rng::new(11);
+    store.group(430);
+    for (name, wanted) in WINDOWS {
+        store.planned_sheet(name, &find_showing(&mut rng, Form::Windows, wanted));
+    }
+    for (name, wanted) in TIMETABLE {
+        store.planned_sheet(&format!("{name}-timetable"), &find_showing(&mut rng, Form::Timetable, wanted));
+    }
+}
+
+fn find_showing(rng: &mut Rng, form: Form, wanted: fn(&Trace) -> bool) -> Sheet {
+    let mut sheets = std::iter::repeat_with(|| small(rng, form, SMALL_ORDERS)).take(MOST_TRIES);
+    sheets.find(|sheet| wanted(&trace(sheet))).expect("a sheet that shows this")
+}

@@ -1,0 +1,8 @@
+//! The independent implementation against document 01's cases, the stored sheets, the rounds word for word and the listing.
+
+mod listing;
+mod memory;
+mod printing;
+mod reading;
+mod rounds;
+mod schedules;
