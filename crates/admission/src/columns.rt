@@ -2,9 +2,8 @@
 ghost use mathlib.Core.Path.{_≡_};
 ghost use Prim.Native.Nat.{_-_, _≤_};
 ghost use lib.ListN.{length};
-ghost use Rattle.numbers.specs.Counting.{nth, every};
-ghost use Rattle.model.specs.Limits.{_–_, train-counts};
-ghost use Rattle.model.specs.Sheet.{places};
+ghost use Rattle.numbers.specs.Counting.{every};
+ghost use Rattle.model.specs.Limits.{_–_};
 ghost use Rattle.admission.specs.ColumnTests.{insideAt, apartAt};
 
 // Whether each of the first `count` elements is in the range from `least` to `most`.
@@ -40,18 +39,4 @@ pub fn all_apart<'a>(a: &'a [u32], b: &'a [u32], count: usize, ahead: usize, by:
         k += 1;
     }
     all
-}
-
-// "K_i is k_1 + … + k_i": the places of the first trains. At most 32 numbers of 32 bits do not wrap 64.
-pub fn places(capacity: &[u32], trains: usize) -> usize
-    requires { ⌜ (trains ≤ length (now capacity)) × (trains ≤ train-counts .most) ⌝ }
-    ensures { λ r. ⌜ r ≡ places (nth (now (capacity .entry))) trains ⌝ }
-{
-    let mut sum: usize = 0;
-    let mut i: usize = 0;
-    while i < trains {
-        sum += capacity[i] as usize;
-        i += 1;
-    }
-    sum
 }

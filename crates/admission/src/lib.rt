@@ -29,7 +29,8 @@ fn first_refusal(complete: bool, in_range: bool, in_order: bool, balanced: bool)
     Admission::Granted
 }
 
-// "A planning call tests its sheet itself: 4, 5, 2, 6, 7", with 0 returned. Columns are short, so every test after test 4 is made.
+// "A planning call tests its sheet itself: 4, 5, 2, 6, 7 ..", with 0 returned; 10 is tested by the planning call. Columns are short, so every test after
+// test 4 is made.
 pub fn admit(sheet: Sheet) -> Admission
     ensures { λ r. ⌜ r ≡ admission (sheetOf sheet) ⌝ }
 {

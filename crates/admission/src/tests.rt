@@ -3,10 +3,10 @@ use crate::columns::BESIDE;
 use crate::columns::NEXT;
 use crate::columns::all_apart;
 use crate::columns::all_inside;
-use crate::columns::places;
 use model::Form;
 use model::Sheet;
 use model::limits;
+use places::places_of;
 ghost use mathlib.Core.Path.{_≡_};
 ghost use Prim.Native.Nat.{_≤_};
 ghost use Rattle.numbers.specs.Counting.{every};
@@ -163,5 +163,5 @@ pub fn balanced(sheet: Sheet) -> bool
     requires { ⌜ Few (sheetOf sheet) ⌝ }
     ensures { λ r. ⌜ r ≡ balanced (sheetOf sheet) ⌝ }
 {
-    places(&sheet.capacity, sheet.train_count) == sheet.order_count
+    places_of(&sheet.capacity, sheet.train_count) == sheet.order_count
 }

@@ -14,6 +14,7 @@ use Rattle.model.specs.declared.Reply.{Reply}
 use Rattle.model.specs.declared.Reply.the-variants as R
 use Rattle.rounds.specs.Areas.{Areas}
 use Rattle.front.specs.Front.{Front, LastPlan}
+use Rattle.fields.specs.declared.NamePlaces.{NamePlaces}
 use Rattle.sheet.specs.ReadingCall.{ReadingCall}
 use Rattle.planner.specs.Planning.{PlanningCall}
 use Rattle.planner.specs.InAreas.{pairs-in, plan-in}
@@ -39,8 +40,8 @@ cause-is r n l e f = rw (e, f)
 
 -- what a reading call of the library promises, the exported one does
 pub exported-reading :
-    {D R : Type 0} (text : List ℕ) (d x : D) (a : Admission) (s : Sheet) (c : Cause) (defined given : R)
-    → ReadingCall text d x a s → c ≡ causeIn a → given ≡ defined → ExportedReading text defined given c s
+    {D R : Type 0} (text : List ℕ) (d x : D) (a : Admission) (s : Sheet) {names : NamePlaces} (c : Cause) (defined given : R)
+    → ReadingCall text d x a s names → c ≡ causeIn a → given ≡ defined → ExportedReading text defined given c s
 exported-reading text d x Granted s c defined given call told e =
     rw told
     (record {

@@ -1,14 +1,16 @@
-// The calls for C and Rust, one for each call of the library. They take and return numbers, slices (in C a pointer, then a length) and structs laid
-// out as in C, and ask nothing of their caller. include/joshkamber.h declares them.
+// The calls for C and Rust: for each form reading a text, the place of an order's name in it, and planning a sheet. Not exported are a name as a part of
+// the text, the tests of a sheet alone, and printing. The calls take and return numbers, slices (in C a pointer, then a length) and structs laid out as
+// in C, and ask nothing of their caller. include/joshkamber.h declares them.
+use fields::NamePlace;
 use model::Admission;
 use model::Refusal;
 use model::Reply;
 use model::TimetableSheet;
 use model::WindowSheet;
-use sheet::NamePlace;
 ghost use mathlib.Core.Path.{_≡_};
 ghost use Rattle.model.specs.Memory.{windowSheet, timetableSheet};
-ghost use Rattle.sheet.specs.OrderNames.{nameIn, placeOf};
+ghost use Rattle.fields.specs.NamePlaces.{placeOf};
+ghost use Rattle.sheet.specs.OrderNames.{nameIn};
 ghost use Rattle.model.specs.declared.Form.the-variants.{Windows, Timetable};
 ghost use Rattle.rounds.specs.Told.{areas};
 ghost use Rattle.capi.specs.Exported.{causeOf, causeIn, windowsRead, timetableRead, ExportedReading, planningOf, ExportedPlanning};

@@ -1,21 +1,18 @@
--- A BUFFER OF 163,840 BYTES IS LONG ENOUGH FOR WHATEVER IS PRINTED OF A TEXT. Assumes nothing.
+-- A PAGE OF 163,840 BYTES IS LONG ENOUGH FOR WHATEVER IS PRINTED OF A TEXT. Assumes nothing.
 use mathlib.Core.Path.{_≡_, refl, sym, ap, _∙_}
-use mathlib.Core.Bool.{cond}
 use mathlib.Core.List.{List, [], _∷_, _++_}
-use Prim.Native.Nat.{ℕ, zero, suc, _*_, _≤_, _<_}
+use Prim.Native.Nat.{ℕ, zero, suc, _*_, _^_, _≤_, _<_}
 use native.Mathlib.Omega.{arith}
 use lib.IntN.{pos, natAbs}
 use lib.ListN.{length, getD, drop}
 use lib.Seq.{take-at}
-use borrow.Author.Tests.{le-leb}
 use Rattle.numbers.specs.Counting.{at, nth}
 use Rattle.model.specs.Sheet.{Sheet}
 use Rattle.model.specs.Memory.{sheetOf}
-use Rattle.model.specs.Limits.{order-counts, train-counts, numbers-a-pair, numbers-a-train}
+use Rattle.model.specs.Limits.{order-counts, train-counts, numbers-a-pair, numbers-a-train, most-printed}
 use Rattle.model.specs.Lateness.{Pair, pair-at}
 use Rattle.model.specs.Admission.{Admitted}
 use Rattle.model.specs.Refusal.{returned, returnedOf}
-use Rattle.model.specs.declared.Form.{Form}
 use Rattle.model.specs.declared.Refusal.{Refusal}
 use Rattle.model.specs.declared.Admission.{Admission}
 use Rattle.model.specs.declared.Admission.the-variants as tests
@@ -25,16 +22,16 @@ use Rattle.rounds.specs.Areas.{Areas, answer-to, reply, pair-numbers, time-numb
 use Rattle.rounds.specs.AreaLaws.{pair-numbers-length, time-numbers-length, answer-returns}
 use Rattle.rounds.specs.ScheduleLaws.{SmallPair}
 use Rattle.rounds.specs.SizeLaws.{Sizes, sizes}
+use Rattle.fields.specs.NamePlaces.{NamesLie}
+use Rattle.fields.specs.declared.NamePlaces.{NamePlaces}
 use Rattle.sheet.specs.Sheets.{reading}
 use Rattle.sheet.specs.AdmissionLaws.{read-admitted}
+use Rattle.sheet.specs.NameLaws.{names-lie}
 use Rattle.sheet.specs.ReturnedLaws.{text-refusal, returned-bound}
 use Rattle.planner.specs.CallLaws.{accepted}
-use Rattle.printer.specs.Lines.{refusal-line}
-use Rattle.printer.specs.LengthLaws.{plan-short, refusal-line-short}
-use Rattle.printer.specs.Writing.{Prints}
-use Rattle.printer.specs.declared.Printed.{Printed}
-use Rattle.printer.specs.declared.Printed.the-variants.{Bytes, TooShort}
-use Rattle.desk.specs.Printing.{reply-bytes, PlanPrinted, Printing, Whole}
+use Rattle.printer.specs.PlanLengthLaws.{plan-short}
+use Rattle.layout.specs.LengthLaws.{refusal-line-short}
+use Rattle.desk.specs.Printing.{reply-bytes, PlanBytes, AdmittedBytes, TextBytes, form-of}
 
 -- ---- the numbers in the areas
 
@@ -69,12 +66,12 @@ time-numbers-small departure arrival (suc q) h k l =
 
 -- ---- a planned sheet
 
-module _ (text : List ℕ) (form : Form) (s : Sheet) (lent : Areas) where
-  abbrev bytes : Answer → List ℕ
-  bytes a = reply-bytes text form s (reply a) (areas-after s a lent)
+module _ (text : List ℕ) (names : NamePlaces) (named : NamesLie text names) (s : Sheet) (lent : Areas) where
+  abbrev printed : Answer → List ℕ
+  printed a = reply-bytes text names s (reply a) (areas-after s a lent)
 
   planned-short : (ps : List Pair) (x : Plan) (c : ℕ) → s .orders ≤ order-counts .most → s .trains ≤ train-counts .most → Sizes s ps x c
-      → length (bytes (planned ps x c)) ≤ 163840
+      → length (printed (planned ps x c)) ≤ most-printed
   unfolding reply-bytes reply areas-after
   planned-short ps x c n q z =
       let times = time-numbers (x .departure) (x .arrival) (s .trains) in
@@ -85,7 +82,7 @@ module _ (text : List ℕ) (form : Form) (s : Sheet) (lent : Areas) where
         take-at (x .train) (drop (length (x .train)) (lent .trains)) (s .orders) (z .placed),
         take-at times (drop (length times) (lent .times)) (numbers-a-train * s .trains) long,
       )
-      (plan-short text form (pair-numbers ps) (x .train) times c (omega (arith, z .few-pairs)) (omega (arith, z .placed)) (omega arith)
+      (plan-short text names (pair-numbers ps) (x .train) times c named (omega (arith, z .few-pairs)) (omega (arith, z .placed)) (omega arith)
       (record {
         pairs-small = pair-numbers-small ps (z .pairs-small);
         trains-small = λ k l. omega (arith, z .trains-small k (omega (arith, z .placed)));
@@ -95,42 +92,35 @@ module _ (text : List ℕ) (form : Form) (s : Sheet) (lent : Areas) where
         rounds-small = omega (arith, z .few-rounds);
       }))
 
-  refusal-short : (r : Refusal) → returned r ≡ 0 → length (bytes (refused r)) ≤ 163840
+  refusal-short : (r : Refusal) → returned r ≡ 0 → length (printed (refused r)) ≤ most-printed
   unfolding reply-bytes reply
   refusal-short r e = omega (arith, refusal-line-short r (omega arith))
 
-  answer-short : Admitted s → length (bytes (answer-to s lent)) ≤ 163840
+  answer-short : Admitted s → length (printed (answer-to s lent)) ≤ most-printed
   unfolding reply
   answer-short a = go (answer-to s lent) refl
     where
-      go : (x : Answer) → answer-to s lent ≡ x → length (bytes x) ≤ 163840
+      go : (x : Answer) → answer-to s lent ≡ x → length (printed x) ≤ most-printed
       go (refused r) e = refusal-short r (sym (ap (λ (x : Answer). returnedOf (reply x)) e) ∙ answer-returns s lent)
       go (planned ps x c) e = planned-short ps x c (a .few .orders) (a .few .trains) (sizes s a (accepted s lent e .1))
 
 -- ---- whatever is printed
 
-all-put : (bytes found : List ℕ) (r : Printed) (after : List ℕ) → Prints bytes found r after → length bytes ≤ length found → r ≡ Bytes (length bytes)
-all-put bytes found r after p l = p .answer ∙ ap (λ t. cond t (Bytes (length bytes)) TooShort) (le-leb (length bytes) (length found) l)
-
-module _ (text : List ℕ) (form : Form) (found : List ℕ) (r : Printed) (after : List ℕ) where
+module _ (text : List ℕ) (bytes : List ℕ) where
   -- the reply and the areas are those of document 01's rounds, as the planning call's equality says
-  plan-equal : (s : Sheet) (p : PlanPrinted text form s found r after) → Prints (bytes text form s (p .lent) (answer-to s (p .lent))) found r after
-  plan-equal s p = rw (← p .call .equal .replied, ← p .call .equal .areas-left) (p .prints)
+  plan-fits : (names : NamePlaces) (s : Sheet) → NamesLie text names → Admitted s → PlanBytes text names s bytes → length bytes ≤ most-printed
+  plan-fits names s named a p =
+      rw (p .printed, p .call .equal .replied, p .call .equal .areas-left) (answer-short text names named s (p .lent) a)
 
-  printing-whole : (a : Admission) (s : Sheet) → 163840 ≤ length found → (a ≡ tests.Granted → Admitted s)
-      → ((q : Refusal) → a ≡ tests.Refused q → returned q < 1000000000) → Printing a text form s found r after → Whole r
-  printing-whole (tests.Refused q) s room read line p =
-      record { count = length (refusal-line q); bytes = all-put (refusal-line q) found r after p (omega (arith, refusal-line-short q (line q refl))) }
-  printing-whole tests.Granted s room read line p =
-      let bs = bytes text form s (p .lent) (answer-to s (p .lent)) in
-      record {
-        count = length bs;
-        bytes = all-put bs found r after (plan-equal s p) (omega (arith, answer-short text form s (p .lent) (read refl)));
-      }
+  admitted-fits : (x : Admission) (names : NamePlaces) (s : Sheet) → NamesLie text names → (x ≡ tests.Granted → Admitted s)
+      → ((q : Refusal) → x ≡ tests.Refused q → returned q < 2 ^ 64) → AdmittedBytes x text names s bytes → length bytes ≤ most-printed
+  admitted-fits (tests.Refused q) names s named read line e = rw e (omega (arith, refusal-line-short q (line q refl)))
+  admitted-fits tests.Granted names s named read line p = plan-fits names s named (read refl) p
 
-  pub text-whole : length text < 1000000000 → 163840 ≤ length found
-      → Printing (reading form text .admission) text form (sheetOf (reading form text .sheet)) found r after → Whole r
+  pub text-fits : length text < 2 ^ 64 → TextBytes text bytes → length bytes ≤ most-printed
   unfolding reading
-  text-whole small room =
-      printing-whole (reading form text .admission) (sheetOf (reading form text .sheet)) room (read-admitted form text)
-      (λ q u. omega (arith, returned-bound (length text) q (text-refusal form text q u)))
+  text-fits short p =
+      let form = form-of text in
+      let x = reading form text in
+      admitted-fits (x .admission) (x .names) (sheetOf (x .sheet)) (names-lie form text) (read-admitted form text)
+      (λ q u. omega (arith, returned-bound (length text) q (text-refusal form text q u))) p

@@ -1,3 +1,4 @@
 pub mod Printing
 pub mod FitLaws
 pub mod PrintingLaws
+pub mod CaseLaws

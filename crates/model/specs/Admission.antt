@@ -128,7 +128,7 @@ unfoldable pub balanced : Sheet → Bool
 unfolding places
 balanced s = eqb (places (s .capacity) (s .trains)) (s .orders)
 
--- ---- "A sheet is admitted if it passes 4, 5, 2, 6, 7"
+-- ---- "A sheet is admitted if it passes 4, 5, 2, 6, 7 and 10": here all but 10, which needs the lent areas (`LongEnough` in `rounds`)
 
 pub record Admitted (s : Sheet) : Type 0 where
   pub few : Few s
@@ -142,7 +142,7 @@ abbrev pub passed : Bool → Refusal → Admission → Admission
 passed true r next = next
 passed false r next = Refused r
 
--- "A planning call tests its sheet itself: 4, 5, 2, 6, 7", with 0 returned: the first that fails decides
+-- "A planning call tests its sheet itself: 4, 5, 2, 6, 7, ..", with 0 returned: the first that fails decides
 unfoldable pub admission : Sheet → Admission
 unfolding few complete inRange inOrder balanced
 admission s =

@@ -4,7 +4,7 @@ use mathlib.Core.Bool.{Bool, true, false, _&&_}
 use Prim.Native.Nat.{ℕ, suc, _-_, _≤_, _<_}
 use native.Mathlib.Omega.{arith}
 use Rattle.numbers.specs.Counting.{each}
-use Rattle.numbers.specs.Decides.{Decides, decides-le, decides-lt, decides-eq, decides-and, decides-iff, decides-every, decides-each}
+use Rattle.numbers.specs.DecidesLaws.{Decides, decides-le, decides-lt, decides-eq, decides-and, decides-iff, decides-every, decides-each}
 use Rattle.model.specs.Sheet.{Windows, Timetable, Paths, windows, timetable, Sheet, places}
 use Rattle.model.specs.Limits.{Range, Inside, inside, gap-range, window-range, capacity-range, running-range}
 use Rattle.model.specs.Limits.{departure-range, arrival-range, release-range, due-range, weight-range}

@@ -1,4 +1,6 @@
 // Document 01's limits and sizes, as the code names them. specs/Limits.antt has the same numbers.
+ghost use mathlib.Core.Path.{_≡_};
+ghost use Rattle.model.specs.Limits.{inside, _–_};
 
 // The last instant of a window, a fixed departure, a release or a due time.
 pub const LAST_INSTANT: u32 = 100000;
@@ -39,5 +41,18 @@ pub const MOST_PAIR_NUMBERS: usize = 12800;
 
 pub const MOST_TIME_NUMBERS: usize = 64;
 
+// A page that is long enough for whatever is printed of a text.
+pub const MOST_PRINTED: usize = 163840;
+
 // The limit y before the first round: above every weighted lateness of an admitted sheet.
 pub const FIRST_LIMIT: i64 = 1000000000;
+
+// Whether a value is in the range from `least` to `most`.
+pub fn in_range(least: u32, most: u32, value: u32) -> bool
+    ensures { λ r. ⌜ r ≡ inside (least – most) value ⌝ }
+{
+    if value < least {
+        return false;
+    }
+    value <= most
+}

@@ -11,7 +11,7 @@ use lib.Signed.{ltZ}
 abbrev pub at : List ℕ → ℕ → ℕ
 at l j = getD l j 0
 
--- element number i; 0 past the end
+-- element number i, from 1; 0 past the end. `nth l 0` is the first element too, since 0 - 1 is 0
 abbrev pub nth : List ℕ → ℕ → ℕ
 nth l i = getD l (i - 1) 0
 

@@ -10,7 +10,7 @@ use lib.Dec.{eqb}
 use lib.ListN.{length, getD, length-append, List·getD-append}
 use lib.Seq.{getD-at}
 use Rattle.numbers.specs.Counting.{one-if, count, every, table}
-use Rattle.numbers.specs.Decides.{Decides, decides-eq, decided, extend}
+use Rattle.numbers.specs.DecidesLaws.{Decides, decides-eq, decided, extend}
 
 -- ---- one test
 

@@ -1,5 +1,5 @@
 pub mod Counting
-pub mod Decides
+pub mod DecidesLaws
 pub mod CountingLaws
 pub mod SignedLaws
 pub mod ListLaws

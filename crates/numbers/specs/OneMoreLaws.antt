@@ -6,7 +6,7 @@ use Prim.Native.Nat.{ℕ, zero, suc, _+_, _-_, _<_}
 use native.Mathlib.Omega.{arith}
 use lib.ListN.{length, getD, length-append, List·getD-append}
 use lib.Seq.{getD-append-seam}
-use Rattle.numbers.specs.Decides.{decides-lt, decided}
+use Rattle.numbers.specs.DecidesLaws.{decides-lt, decided}
 
 -- d is the element that stands past the end
 module _ {A : Type 0} (d : A) where

@@ -11,7 +11,7 @@ use lib.IntN.{ℤ, pos, negsuc, natAbs, negℤ, _-ℤ_, _*ℤ_, subℕ}
 use lib.Signed.{ltZ, leZ, _≤ℤ_, _<ℤ_, leZ-yes, ltZ-yes, ≤ℤ-refl, clashℤ}
 use borrow.Author.Tests.{lt-ltb, le-ltb}
 use Rattle.numbers.specs.Counting.{larger, greatest}
-use Rattle.numbers.specs.Decides.{decided, decides-lt, decides-ltℤ, cond-yes, cond-no, extend}
+use Rattle.numbers.specs.DecidesLaws.{decided, decides-lt, decides-ltℤ, cond-yes, cond-no, extend}
 
 -- ---- order
 

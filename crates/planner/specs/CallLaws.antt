@@ -4,7 +4,7 @@ use mathlib.Core.Bool.{Bool, true, false, cond}
 use mathlib.Core.List.{List}
 use Prim.Native.Nat.{ℕ}
 use native.Mathlib.Omega.{arith}
-use Rattle.numbers.specs.Decides.{cond-yes, cond-no}
+use Rattle.numbers.specs.DecidesLaws.{cond-yes, cond-no}
 use Rattle.model.specs.Sheet.{Sheet}
 use Rattle.model.specs.Lateness.{Pair}
 use Rattle.model.specs.Admission.{Admitted, admission}

@@ -7,7 +7,7 @@ use lib.IntN.{pos}
 use lib.ListN.{length, getD, drop, List·getD-append}
 use lib.Seq.{take-at, ext-getD, getD-at, getD-append-add}
 use Rattle.numbers.specs.Counting.{at, nth, table}
-use Rattle.numbers.specs.Decides.{extend}
+use Rattle.numbers.specs.DecidesLaws.{extend}
 use Rattle.numbers.specs.CountingLaws.{table-length, table-at}
 use Rattle.numbers.specs.Over.{over}
 use Rattle.numbers.specs.OverLaws.{over-at}

@@ -1,11 +1,2 @@
-pub mod Decimal
-pub mod DecimalLaws
-pub mod Lines
-pub mod LineLaws
-pub mod Writing
-pub mod WritingLaws
-pub mod SizeLaws
-pub mod LengthLaws
-pub mod Names
-pub mod NameLaws
-pub mod CaseLaws
+pub mod PlanBytes
+pub mod PlanLengthLaws

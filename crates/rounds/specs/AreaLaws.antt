@@ -6,7 +6,7 @@ use Prim.Native.Nat.{ℕ, zero, suc, _*_, _≤_}
 use native.Mathlib.Omega.{arith}
 use lib.IntN.{pos}
 use lib.ListN.{length, length-append}
-use Rattle.numbers.specs.Decides.{Decides, decides-le, decides-and, decides-iff}
+use Rattle.numbers.specs.DecidesLaws.{Decides, decides-le, decides-and, decides-iff}
 use Rattle.model.specs.Sheet.{Sheet}
 use Rattle.model.specs.Limits.{numbers-a-pair, numbers-a-train}
 use Rattle.model.specs.Lateness.{Pair}

@@ -6,7 +6,7 @@ use Prim.Native.Nat.{ℕ, _≤_}
 use native.Mathlib.Omega.{arith}
 use lib.IntN.{ℤ}
 use lib.Signed.{_≤ℤ_, _<ℤ_, <ℤ-≤ℤ-trans, clashℤ}
-use Rattle.numbers.specs.Decides.{decides-eq, decides-ltℤ, decided}
+use Rattle.numbers.specs.DecidesLaws.{decides-eq, decides-ltℤ, decided}
 use Rattle.numbers.specs.SignedLaws.{≤ℤ-trans, <ℤ-weaken, ≮ℤ-≤ℤ, ≤ℤ-<ℤ-trans}
 use Rattle.numbers.specs.OneMoreLaws.{All, Some, all-more, some-old, some-new, some-split}
 use Rattle.model.specs.Sheet.{Sheet}

@@ -9,7 +9,7 @@ use native.Mathlib.Omega.{arith}
 use native.Mathlib.Nat.{add-zero, add-suc, add-sub-of-le}
 use lib.Dec.{leb, ltb}
 use Rattle.numbers.specs.Counting.{at, count}
-use Rattle.numbers.specs.Decides.{Decides, decides-le, decides-lt, decides-eq, decides-and, decided}
+use Rattle.numbers.specs.DecidesLaws.{Decides, decides-le, decides-lt, decides-eq, decides-and, decided}
 use Rattle.numbers.specs.CountingLaws.{count-mono, count-lt, count-disj, count-union, count-none, count-all, find}
 use Rattle.model.specs.Sheet.{places}
 use Rattle.rounds.specs.LoadingLaws.{on, decides-on}

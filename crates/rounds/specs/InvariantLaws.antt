@@ -9,7 +9,7 @@ use lib.Dec.{leb}
 use lib.IntN.{ℤ}
 use lib.ListN.{replicate, getD-replicate}
 use Rattle.numbers.specs.Counting.{at, nth, count}
-use Rattle.numbers.specs.Decides.{decides-le, decides-lt, decided}
+use Rattle.numbers.specs.DecidesLaws.{decides-le, decides-lt, decided}
 use Rattle.numbers.specs.OneMoreLaws.{All}
 use Rattle.numbers.specs.CountingLaws.{count-none, count-all}
 use Rattle.model.specs.Sheet.{Sheet, places}

@@ -11,7 +11,7 @@ use lib.IntN.{ℤ}
 use lib.ListN.{length}
 use lib.Signed.{ltZ, _≤ℤ_, _<ℤ_, ≤ℤ-refl, <ℤ-≤ℤ-trans, clashℤ}
 use Rattle.numbers.specs.Counting.{at, nth, count, sum}
-use Rattle.numbers.specs.Decides.{Decides, decides-le, decides-ltℤ, decided, numbered}
+use Rattle.numbers.specs.DecidesLaws.{Decides, decides-le, decides-ltℤ, decided, numbered}
 use Rattle.numbers.specs.OneMoreLaws.{All}
 use Rattle.numbers.specs.SignedLaws.{≤ℤ-trans, <ℤ-weaken, ≮ℤ-≤ℤ, ≤ℤ-<ℤ-trans}
 use Rattle.model.specs.Sheet.{Sheet, places}

@@ -5,7 +5,7 @@ use mathlib.Core.List.{List, [], _∷_, _++_}
 use Prim.Native.Nat.{ℕ, zero, suc, _+_, _≤_}
 use native.Mathlib.Omega.{arith}
 use lib.ListN.{length, length-append}
-use Rattle.numbers.specs.Decides.{decides-eq, cond-yes, cond-no}
+use Rattle.numbers.specs.DecidesLaws.{decides-eq, cond-yes, cond-no}
 use Rattle.numbers.specs.OneMoreLaws.{All, all-cons}
 use Rattle.model.specs.Lateness.{pair-at}
 use Rattle.rounds.specs.Recording.{Entry, same-arrival, record-entry, listed, no-entry, entry-at, last-entry, last-plan, recorded-arrival}

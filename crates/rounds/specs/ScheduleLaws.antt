@@ -9,7 +9,7 @@ use lib.IntN.{ℤ, natAbs}
 use lib.ListN.{length}
 use lib.Signed.{_<ℤ_}
 use Rattle.numbers.specs.Counting.{at, nth, count, greatest}
-use Rattle.numbers.specs.Decides.{decides-le, decided}
+use Rattle.numbers.specs.DecidesLaws.{decides-le, decided}
 use Rattle.numbers.specs.CountingLaws.{count-none}
 use Rattle.numbers.specs.SignedLaws.{size-below}
 use Rattle.model.specs.Sheet.{Sheet}

@@ -5,7 +5,7 @@ use Prim.Native.Nat.{ℕ, zero, suc, _+_, _-_, _*_, _≤_, _<_, min}
 use native.Mathlib.Omega.{arith}
 use lib.Dec.{leb}
 use Rattle.numbers.specs.Counting.{one-if, count, sum}
-use Rattle.numbers.specs.Decides.{decides-le, decides-eq, decided}
+use Rattle.numbers.specs.DecidesLaws.{decides-le, decides-eq, decided}
 use Rattle.numbers.specs.CountingLaws.{bit-yes, bit-no, count-le}
 use Rattle.model.specs.Sheet.{Sheet, places}
 use Rattle.rounds.specs.RoundsBound.{rounds-bound}

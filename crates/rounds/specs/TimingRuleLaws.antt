@@ -8,7 +8,7 @@ use native.Mathlib.Nat.{mul-le-mul}
 use lib.Dec.{leb}
 use lib.ListN.{length}
 use Rattle.numbers.specs.Counting.{nth, row, each}
-use Rattle.numbers.specs.Decides.{Decides, decides-le, decides-each, numbered}
+use Rattle.numbers.specs.DecidesLaws.{Decides, decides-le, decides-each, numbered}
 use Rattle.numbers.specs.CountingLaws.{table-length, table-at}
 use Rattle.model.specs.Sheet.{Windows, Timetable, Paths, windows, timetable}
 use Rattle.model.specs.Schedule.{InWindows, OnTimetable, Departures}
@@ -87,6 +87,7 @@ module _ (w : Windows) (q : ℕ) (few : q ≤ 32) (r : WindowsInRange w q) (o : 
       step : (S : ℕ → ℕ) → InWindows w q S → (i : ℕ) → 1 ≤ i → i < q → S i ≤ S (suc i)
       step S a i p l = let e : suc i - 1 ≡ i = omega arith in omega (arith, rw e at (a .spaced (suc i) (omega arith) l))
 
+      -- 100000 is the last instant of a window, and 10000 the longest running time
       early : (S : ℕ → ℕ) → InWindows w q S → (i : ℕ) → 1 ≤ i → i ≤ q → (S i ≤ 100000) × (w .running i ≤ 10000)
       early S a i p l =
           let x = a .in-window i p l in

@@ -1,40 +1,29 @@
--- What the parts of a round ask and leave.
-use mathlib.Core.Path.{_≡_}
-use mathlib.Core.Bool.{true, false, cond}
-use Prim.Native.Nat.{_*_, _<_}
-use lib.ListN.{length, take}
+-- What holds where a round is begun, and the plan that it makes.
+use mathlib.Core.Bool.{false}
+use mathlib.Core.List.{List}
+use Prim.Native.Nat.{ℕ, _*_, _<_}
+use lib.ListN.{take}
 use Rattle.model.specs.Sheet.{Sheet}
-use Rattle.model.specs.Lateness.{worst}
-use Rattle.rounds.specs.Timing.{stopped, timed}
-use Rattle.rounds.specs.Rounds.{loading, times}
-use Rattle.steps.specs.Columns.{UpTo, Loaded}
-use Rattle.steps.specs.Ranks.{Ranked}
-use Rattle.model.specs.Limits.{last-arrival, most-pairs}
-use Rattle.search.specs.Shows.{plan-of, arrives}
-use Rattle.search.specs.declared.Plan as code
+use Rattle.model.specs.Limits.{most-pairs}
+use Rattle.rounds.specs.Recording.{Plan}
+use Rattle.rounds.specs.Rounds.{loading}
+use Rattle.columns.specs.Columns.{UpTo, Loaded}
+use Rattle.loading.specs.Ranks.{Ordered}
+use Rattle.timing.specs.declared.Times.{Times}
 use Rattle.search.specs.declared.Progress.{Progress}
 
--- the search goes on, with latest trains of the sheet
-pub record Moving (s : Sheet) (p : Progress) : Type 0 where
-  pub on : p .ended ≡ false
-  pub latest : UpTo (s .trains) (s .orders) (p .latest)
-  pub rounds : p .rounds < most-pairs
-
--- a round is begun: the latest trains load every order, and there is room for a pair
+-- the latest trains are the sheet's and load every order, and there is room for a pair
 pub record Begun (s : Sheet) (p : Progress) : Type 0 where
-  pub moving : Moving s p
-  pub ranked : Ranked s (p .ranks)
+  pub ordered : Ordered s (p .order)
+  pub latest : UpTo (s .trains) (s .orders) (p .latest)
   pub loads : Loaded s (loading s (take (s .orders) (p .latest)))
   pub pairs : p .pairs < s .orders * s .trains
+  pub rounds : p .rounds < most-pairs
 
--- steps 1 and 2, and z of step 3
-pub record Makes (s : Sheet) (p : Progress) (r : code.Plan) : Type 0 where
-  pub train-is : plan-of s r .train ≡ loading s (take (s .orders) (p .latest))
-  pub times-are : cond (r .runs) (timed (plan-of s r .departure) (plan-of s r .arrival)) stopped ≡ times s (plan-of s r .train)
-  pub worst-is : r .runs ≡ true → r .worst ≡ worst s (plan-of s r .train) (arrives s r)
+-- the plan in memory of a loading and its times, of n orders and q trains
+abbrev pub plan-of : Sheet → (train : List ℕ) → Times → Plan
+plan-of s train t = record { train = take (s .orders) train; departure = take (s .trains) (t .departure); arrival = take (s .trains) (t .arrival) }
 
--- a plan with every order on a train, arrivals in the table's range, and its own worst lateness
-pub record Complete (s : Sheet) (plan : code.Plan) : Type 0 where
-  pub placed : length (plan-of s plan .train) ≡ s .orders
-  pub in-time : UpTo last-arrival (s .trains) (plan .arrival)
-  pub worst-is : plan .worst ≡ worst s (plan-of s plan .train) (arrives s plan)
+-- the progress between steps 3 and 4, where r has what step 3 changes in p: the round is not counted yet
+abbrev pub between : (p r : Progress) → Progress
+between p r = record { order = p .order; latest = p .latest; limit = r .limit; last = r .last; pairs = r .pairs; rounds = p .rounds; ended = false }

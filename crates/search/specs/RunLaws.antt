@@ -1,11 +1,12 @@
 -- From the rounds to the reply. Assumes nothing.
 use mathlib.Core.Path.{_≡_, refl, sym, ap, _∙_, subst}
-use mathlib.Core.Bool.{true, false}
+use mathlib.Core.Logic.{_⊎_, inl, inr}
+use mathlib.Core.Bool.{Bool, true, false, not}
 use mathlib.Core.List.{List, [], _∷_}
-use Prim.Native.Nat.{ℕ, _+_, _*_, _≤_}
+use Prim.Native.Nat.{ℕ, _+_, _*_, _≤_, _<_}
 use native.Mathlib.Omega.{arith}
 use lib.ListN.{length, replicate}
-use Rattle.numbers.specs.Decides.{decides-eq, cond-yes, cond-no}
+use Rattle.numbers.specs.DecidesLaws.{decides-eq, decided, cond-yes, cond-no}
 use Rattle.model.specs.Sheet.{Sheet}
 use Rattle.model.specs.Admission.{Admitted}
 use Rattle.rounds.specs.Recording.{Entry, listed, last-entry, last-plan}
@@ -25,25 +26,37 @@ pub still-long : (s : Sheet) (lent left : Areas) → LongEnough s lent → lengt
     → length (left .trains) ≡ length (lent .trains) → length (left .times) ≡ length (lent .times) → LongEnough s left
 still-long s lent left h a b c = record { pairs = omega (arith, h .pairs); trains = omega (arith, h .trains); times = omega (arith, h .times) }
 
+-- the outcome of a test, from that of its opposite
+pub not-yet : (b : Bool) → not b ≡ true → b ≡ false
+not-yet true e = sym e
+not-yet false e = refl
+
+pub by-now : (b : Bool) → not b ≡ false → b ≡ true
+by-now true e = refl
+by-now false e = sym e
+
 module _ (s : Sheet) (found : Areas) where
   -- before the first round
-  pub start-shown : (p : Progress) (lent : Areas) → Shows s (state p lent found) (start s) → Shows s (state p lent found) (rounds s 0 (start s))
-  unfolding rounds
-  start-shown p lent h = h
-
-  -- a search at its start goes on
-  pub start-goes-on : (p : Progress) (lent : Areas) → Shows s (state p lent found) (start s) → p .ended ≡ false
+  start-counts : (p : Progress) (lent : Areas) → Shows s (state p lent found) (start s) → p .rounds ≡ 0
   unfolding start
-  start-goes-on p lent h = go (h .stands)
+  start-counts p lent h = go (h .stands)
     where
-      go : Stands (s .orders) p (going 0 (replicate (s .orders) (s .trains)) above-everything []) → p .ended ≡ false
-      go (goes-on f c l y) = f
+      go : Stands (s .orders) p (going 0 (replicate (s .orders) (s .trains)) above-everything []) → p .rounds ≡ 0
+      go (goes-on f c l y) = c
+
+  pub start-shown : (p : Progress) (lent : Areas) → Shows s (state p lent found) (start s)
+      → (p .rounds ≡ 0) × Shows s (state p lent found) (rounds s (p .rounds) (start s))
+  unfolding rounds
+  start-shown p lent h =
+      let none = start-counts p lent h in (none, subst (λ (k : ℕ). Shows s (state p lent found) (rounds s k (start s))) (sym none) h)
 
   -- one round more
-  pub next-shown : (p r : Progress) (lent left : Areas) (k : ℕ) → Shows s (state p lent found) (rounds s k (start s))
-      → Leads s (state p lent) (state r left) (round s) → Shows s (state r left found) (rounds s (k + 1) (start s))
-  next-shown p r lent left k h leads =
-      subst (λ (x : Search). Shows s (state r left found) x) (sym (one-round-more s k (start s))) (leads found (rounds s k (start s)) h)
+  pub next-shown : (p r : Progress) (lent left : Areas) → Shows s (state p lent found) (rounds s (p .rounds) (start s))
+      → Leads s (state p lent) (state r left) (round s) → r .rounds ≡ p .rounds + 1 → Shows s (state r left found) (rounds s (r .rounds) (start s))
+  next-shown p r lent left h leads one =
+      subst (λ (k : ℕ). Shows s (state r left found) (rounds s k (start s))) (sym one)
+      (subst (λ (x : Search). Shows s (state r left found) x) (sym (one-round-more s (p .rounds) (start s)))
+      (leads found (rounds s (p .rounds) (start s)) h))
 
   module _ (p : Progress) (left : Areas) where
     -- nothing is recorded
@@ -88,11 +101,16 @@ module _ (s : Sheet) (found : Areas) where
         same x e (goes-on f c t y) = one-outcome over f
         same x e (has-ended {c = c} {recorded = recorded} f made) = plan-at-end s k c recorded l e ∙ ap answer (sym e)
 
-    -- a search that goes on after n × q rounds would be cut off, and none is
-    pub never-cut-off : Admitted s → p .ended ≡ false → (k : ℕ) → k ≡ s .orders * s .trains → Shows s (state p left found) (rounds s k (start s)) → ⊥
+    -- a search that goes on has made fewer than n × q rounds: none is cut off
+    pub more-to-come : Admitted s → p .ended ≡ false → (k : ℕ) → k ≤ s .orders * s .trains → Shows s (state p left found) (rounds s k (start s))
+        → k < s .orders * s .trains
     unfolding plan search answer
-    never-cut-off a on k e h = go (rounds s k (start s)) (ap (λ (m : ℕ). rounds s m (start s)) e) (h .stands)
+    more-to-come a on k l h = split (decided (decides-eq k (s .orders * s .trains)))
       where
-        go : (x : Search) → x ≡ rounds s (s .orders * s .trains) (start s) → Stands (s .orders) p x → ⊥
-        go x u (goes-on f c l y) = nine-never s a (ap answer (sym u))
-        go x u (has-ended f c) = one-outcome f on
+        cut : (x : Search) → x ≡ rounds s (s .orders * s .trains) (start s) → Stands (s .orders) p x → ⊥
+        cut x u (goes-on f c t y) = nine-never s a (ap answer (sym u))
+        cut x u (has-ended f c) = one-outcome f on
+
+        split : (k ≡ s .orders * s .trains) ⊎ (¬ (k ≡ s .orders * s .trains)) → k < s .orders * s .trains
+        split (inl e) = absurd (cut (rounds s k (start s)) (ap (λ (m : ℕ). rounds s m (start s)) e) (h .stands))
+        split (inr e) = omega arith

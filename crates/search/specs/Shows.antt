@@ -5,15 +5,13 @@ use mathlib.Core.List.{List, [], _∷_}
 use Prim.Native.Nat.{ℕ, _*_, _≤_, _<_}
 use lib.IntN.{ℤ}
 use lib.ListN.{length, take}
-use Rattle.numbers.specs.Counting.{nth}
 use Rattle.numbers.specs.Over.{over}
 use Rattle.model.specs.Sheet.{Sheet}
-use Rattle.rounds.specs.Recording.{Plan, Entry, last-plan}
+use Rattle.rounds.specs.Recording.{Entry, last-plan}
 use Rattle.rounds.specs.Rounds.{Search, going, ended, recorded-in, start, rounds}
 use Rattle.rounds.specs.Areas.{Areas, time-numbers}
-use Rattle.steps.specs.Ranks.{Ranked}
-use Rattle.steps.specs.Recorded.{HeldList, held-list, Lists}
-use Rattle.search.specs.declared.Plan as code
+use Rattle.loading.specs.Ranks.{Ordered}
+use Rattle.recording.specs.Recorded.{HeldList, held-list, Lists}
 use Rattle.search.specs.declared.Progress.{Progress}
 
 -- where a search stands in memory: its progress, the lent areas, and the areas as found at its start
@@ -50,7 +48,7 @@ pub record PlanShown (s : Sheet) (st : State) (entries : List Entry) : Type 0 wh
   pub times : st .areas .times ≡ over (plan-times (s .trains) entries) (st .found .times)
 
 pub record Shows (s : Sheet) (st : State) (x : Search) : Type 0 where
-  pub ranked : Ranked s (st .progress .ranks)
+  pub ordered : Ordered s (st .progress .order)
   pub stands : Stands (s .orders) (st .progress) x
   pub list : ListShown st (recorded-in x)
   pub plan : PlanShown s st (recorded-in x)
@@ -73,11 +71,3 @@ pub record Reached (s : Sheet) (st : (found : Areas) → State) : Type 0 where
   pub made : ℕ
   pub within : made < s .orders * s .trains
   pub shows : Shows s (st found) (rounds s made (start s))
-
--- a plan in memory, of n orders and q trains
-abbrev pub plan-of : Sheet → code.Plan → Plan
-plan-of s p = record { train = take (s .orders) (p .train); departure = take (s .trains) (p .departure); arrival = take (s .trains) (p .arrival) }
-
--- the arrival of train i in it
-abbrev pub arrives : Sheet → code.Plan → ℕ → ℕ
-arrives s p = nth (plan-of s p .arrival)

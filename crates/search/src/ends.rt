@@ -1,29 +1,28 @@
-// The start and the stop of a search.
+// The start of a search, and what is told at its end.
 use crate::Progress;
+use model::Refusal;
+use model::Reply;
 use model::Sheet;
 use model::limits::FIRST_LIMIT;
 use model::limits::MOST_ORDERS;
-use steps::ranking;
 ghost use mathlib.Core.Path.{_≡_};
-ghost use mathlib.Core.Bool.{false};
-ghost use Prim.Native.Nat.{_<_};
 ghost use Rattle.model.specs.Memory.{sheetOf};
 ghost use Rattle.model.specs.Admission.{Admitted};
 ghost use Rattle.rounds.specs.Areas.{Areas};
 ghost use Rattle.rounds.specs.Rounds.{start};
-ghost use Rattle.model.specs.Limits.{most-pairs};
-ghost use Rattle.search.specs.StepsOf.{halted};
-ghost use Rattle.search.specs.Shows.{state, Shows, LeadsAny};
+ghost use Rattle.search.specs.Shows.{state, Shows};
+ghost use Rattle.search.specs.Outcome.{outcome-of};
 
 // Before the first round: every order may ride the last train.
 pub fn start_search(sheet: Sheet) -> Progress
     requires { ⌜ Admitted (sheetOf sheet) ⌝ }
     ensures { λ r. ⌜ ((lent : Areas) → Shows (sheetOf sheet) (state r lent lent) (start (sheetOf sheet))) ⌝ }
 {
-    let ranks = ranking::rank_orders(sheet);
+    let release = sheet.release;
+    let order = loading::ranking::rank_orders(sheet.order_count, &release);
     let trains = sheet.train_count as u8;
     Progress {
-        ranks,
+        order,
         latest: [trains; MOST_ORDERS],
         limit: FIRST_LIMIT,
         last: 0,
@@ -33,20 +32,12 @@ pub fn start_search(sheet: Sheet) -> Progress
     }
 }
 
-// Step 2 stops the search; the round counts.
-pub fn halt(progress: Progress) -> Progress
-    requires { ⌜ (progress .ended ≡ false) × (progress .rounds < most-pairs) ⌝ }
-    ensures { λ r. ⌜ LeadsAny progress r halted ⌝ }
+// What is told of a search that has ended with this many pairs and rounds.
+pub fn outcome(pairs: usize, rounds: usize) -> Reply
+    ensures { λ r. ⌜ r ≡ outcome-of pairs rounds ⌝ }
 {
-    let ranks = progress.ranks;
-    let latest = progress.latest;
-    Progress {
-        ranks,
-        latest,
-        limit: progress.limit,
-        last: progress.last,
-        pairs: progress.pairs,
-        rounds: progress.rounds + 1,
-        ended: true,
+    if pairs == 0 {
+        return Reply::Refused(Refusal::NoSchedule);
     }
+    Reply::Planned { pairs, rounds }
 }

@@ -1,50 +1,19 @@
 -- A NAME THAT IS GIVEN BACK LIES IN THE TEXT AND HAS AT MOST 12 BYTES. Assumes nothing.
 use mathlib.Core.Path.{_≡_}
 use mathlib.Core.List.{List}
-use Prim.Native.Nat.{ℕ, _+_, _-_, _≤_, _<_}
-use native.Mathlib.Omega.{arith}
-use lib.Dec.{leb}
-use lib.ListN.{length}
-use borrow.Author.Tests.{le-leb, lt-leb}
-use Rattle.model.specs.Limits.{inside, _–_, order-counts}
+use Prim.Native.Nat.{ℕ}
 use Rattle.model.specs.declared.Form.{Form}
-use Rattle.sheet.specs.FieldLaws.{inside-means}
-use Rattle.sheet.specs.LineLaws.{by-test}
-use Rattle.sheet.specs.OrderNames.{Span, NamesLie, no-bytes, nameAt, within, nameIn, namesIn}
+use Rattle.fields.specs.NamePlaces.{NamesLie, within, nameAt}
+use Rattle.fields.specs.NameLaws.{name-within}
+use Rattle.sheet.specs.Sheets.{reading, namesFrom}
+use Rattle.sheet.specs.OrderNames.{nameIn}
 use Rattle.sheet.specs.TextLaws.{text-good}
-use Rattle.sheet.specs.declared.NamePlaces.{NamePlaces}
 
-abbrev pub Short : List ℕ → Span → Type 0
-Short text s = (s .start + s .long ≤ length text) × (s .long ≤ 12)
-
-pub short-name : (text : List ℕ) (p : NamePlaces) → NamesLie text p → (j : ℕ) → Short text (nameAt p j)
-unfolding nameAt
-short-name text p h j =
-    by-test (Short text) (inside (1 – (p .count)) j)
-    (λ e.
-    let there = inside-means (1 – (p .count)) j e in
-    let name = h .names (j - 1) (omega (arith, there .0, there .1)) in
-    by-test (Short text) (leb j (order-counts .most)) (λ u. (name .lies, name .size .1)) (λ u. (omega arith, omega arith)))
-    (λ e. (omega arith, omega arith))
-
--- ---- a span as a part of a text
-
-pub within-lies : (text : List ℕ) (s : Span) → s .start + s .long ≤ length text → within text s ≡ s
-unfolding within
-within-lies text s h = rw (le-leb (s .start + s .long) (length text) h)
-
-pub within-not : (text : List ℕ) (s : Span) → length text < s .start + s .long → within text s ≡ no-bytes
-unfolding within
-within-not text s h = rw (lt-leb (s .start + s .long) (length text) h)
-
--- the names of a text lie in it
-pub name-within : (text : List ℕ) (p : NamePlaces) → NamesLie text p → (j : ℕ) → within text (nameAt p j) ≡ nameAt p j
-name-within text p h j = within-lies text (nameAt p j) (short-name text p h j .0)
-
-pub names-lie : (form : Form) (text : List ℕ) → NamesLie text (namesIn form text)
-unfolding namesIn
+pub names-lie : (form : Form) (text : List ℕ) → NamesLie text (reading form text .names)
+unfolding reading namesFrom
 names-lie form text = let good = text-good form text 0 .lines in record { few = good .0 .orders .few; names = good .1 }
 
-pub name-lies : (form : Form) (text : List ℕ) (j : ℕ) → Short text (nameIn form text j)
+-- so what stands at the place of a name is that name
+pub name-there : (form : Form) (text : List ℕ) (j : ℕ) → within text (nameAt (reading form text .names) j) ≡ nameIn form text j
 unfolding nameIn
-name-lies form text j = short-name text (namesIn form text) (names-lie form text) j
+name-there form text j = name-within text (reading form text .names) (names-lie form text) j

@@ -5,16 +5,16 @@ use Prim.Native.Nat.{ℕ, zero, suc, _+_}
 use lib.Dec.{ltb}
 use lib.ListN.{length}
 use Rattle.model.specs.declared.Refusal.{Refusal}
-use Rattle.sheet.specs.Lines.{lineAt}
-use Rattle.sheet.specs.Tests.{lineFault, endFault}
-use Rattle.sheet.specs.SheetLines.{noLines, withLine}
+use Rattle.lines.specs.Lines.{lineAt}
+use Rattle.gather.specs.Tests.{lineFault, endFault}
+use Rattle.gather.specs.SheetLines.{noLines, withLine}
 use Rattle.model.specs.declared.Form.{Form}
-use Rattle.sheet.specs.declared.Line.{Line}
-use Rattle.sheet.specs.declared.LineAt.{LineAt}
-use Rattle.sheet.specs.declared.LineAt.the-variants as L
+use Rattle.lines.specs.declared.Line.{Line}
+use Rattle.lines.specs.declared.LineAt.{LineAt}
+use Rattle.lines.specs.declared.LineAt.the-variants as L
 use Rattle.model.specs.declared.Admission.{Admission}
 use Rattle.model.specs.declared.Admission.the-variants as A
-use Rattle.sheet.specs.declared.SheetLines.{SheetLines}
+use Rattle.gather.specs.declared.SheetLines.{SheetLines}
 use Rattle.sheet.specs.declared.SheetText.{SheetText}
 
 -- all lines together, or the first refusal; "no sheet is given" then

@@ -12,6 +12,8 @@ use Rattle.model.specs.Admission.{Admitted}
 use Rattle.model.specs.declared.Refusal.{Refusal}
 use Rattle.model.specs.declared.Admission.{Admission}
 use Rattle.model.specs.declared.Admission.the-variants.{Granted, Refused}
+use Rattle.fields.specs.NamePlaces.{NamesLie}
+use Rattle.fields.specs.declared.NamePlaces.{NamePlaces}
 
 -- the numbers of the table that return a "line number from 1": 1, 2, 3, 4 and 6
 abbrev pub tells-line : ℕ → Bool
@@ -23,11 +25,14 @@ pub record TextRefusal (bytes : ℕ) (r : Refusal) : Type 0 where
   pub line : tells-line (number r) ≡ true → Inside (1 – bytes) (returned r)
   pub no-line : tells-line (number r) ≡ false → returned r ≡ 0
 
--- A READING CALL gives what the definition gives for the text, and says of the text and of the sheet in it
-pub record ReadingCall {R : Type 0} (text : List ℕ) (defined given : R) (admission : Admission) (sheet : Sheet) : Type 0 where
+-- A READING CALL gives what the definition gives for the text, and says of the text, of the sheet in it and of its names
+pub record ReadingCall {R : Type 0} (text : List ℕ) (defined given : R) (admission : Admission) (sheet : Sheet) (names : NamePlaces) : Type 0 where
   pub equal : given ≡ defined
   -- what is read passes every test of a planning call
   pub admitted : admission ≡ Granted → Admitted sheet
   pub refused : (r : Refusal) → admission ≡ Refused r → TextRefusal (length text) r
   -- "no sheet is given"
   pub no-sheet : (r : Refusal) → admission ≡ Refused r → (sheet .orders ≡ 0) × (sheet .trains ≡ 0)
+  -- each order has a name, which lies in the text
+  pub named : names .count ≡ sheet .orders
+  pub names-lie : NamesLie text names

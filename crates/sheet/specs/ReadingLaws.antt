@@ -8,19 +8,20 @@ use lib.Dec.{ltb}
 use lib.ListN.{length}
 use borrow.Author.Tests.{lt-ltb, le-ltb}
 use Rattle.model.specs.declared.Refusal.{Refusal}
-use Rattle.sheet.specs.Lines.{lineAt}
-use Rattle.sheet.specs.FaultLaws.{refused-not-granted}
-use Rattle.sheet.specs.LineLaws.{by-test, Sound, line-sound}
-use Rattle.sheet.specs.Tests.{lineFault, endFault}
-use Rattle.sheet.specs.SheetLines.{noLines, withLine}
+use Rattle.lines.specs.Lines.{lineAt}
+use Rattle.rows.specs.FaultLaws.{refused-not-granted}
+use Rattle.fields.specs.FieldLaws.{by-test}
+use Rattle.lines.specs.LineLaws.{Sound, line-sound}
+use Rattle.gather.specs.Tests.{lineFault, endFault}
+use Rattle.gather.specs.SheetLines.{noLines, withLine}
 use Rattle.sheet.specs.Reading.{taken, refused, onLine, onAdmission, readLines, readFrom}
 use Rattle.model.specs.declared.Form.{Form}
-use Rattle.sheet.specs.declared.Line.{Line}
-use Rattle.sheet.specs.declared.LineAt.{LineAt}
-use Rattle.sheet.specs.declared.LineAt.the-variants as L
+use Rattle.lines.specs.declared.Line.{Line}
+use Rattle.lines.specs.declared.LineAt.{LineAt}
+use Rattle.lines.specs.declared.LineAt.the-variants as L
 use Rattle.model.specs.declared.Admission.{Admission}
 use Rattle.model.specs.declared.Admission.the-variants as A
-use Rattle.sheet.specs.declared.SheetLines.{SheetLines}
+use Rattle.gather.specs.declared.SheetLines.{SheetLines}
 use Rattle.sheet.specs.declared.SheetText.{SheetText}
 
 module _ (form : Form) where

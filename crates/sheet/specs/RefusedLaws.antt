@@ -7,14 +7,14 @@ use borrow.Author.Tests.{le-leb, lt-leb}
 use Rattle.model.specs.declared.Refusal.{Refusal}
 use Rattle.model.specs.declared.Admission.the-variants.{Refused}
 use Rattle.model.specs.declared.Form.{Form}
-use Rattle.sheet.specs.OrderLines.{noOrders}
-use Rattle.sheet.specs.SheetLines.{noLines}
-use Rattle.sheet.specs.Reading.{readFrom}
-use Rattle.sheet.specs.Sheets.{sheetFrom, reading}
-use Rattle.sheet.specs.OrderNames.{nameAt, nameIn, namesIn}
+use Rattle.rows.specs.OrderLines.{noOrders}
+use Rattle.gather.specs.SheetLines.{noLines}
+use Rattle.fields.specs.NamePlaces.{nameAt}
+use Rattle.sheet.specs.Sheets.{sheetFrom, namesFrom, reading}
+use Rattle.sheet.specs.OrderNames.{nameIn}
 use Rattle.sheet.specs.TextLaws.{text-good}
-use Rattle.sheet.specs.declared.NamePlaces.{NamePlaces}
-use Rattle.sheet.specs.declared.SheetLines.{SheetLines}
+use Rattle.fields.specs.declared.NamePlaces.{NamePlaces}
+use Rattle.gather.specs.declared.SheetLines.{SheetLines}
 
 pub refused-sheet : (form : Form) (text : List ℕ) (r : Refusal) → reading form text .admission ≡ Refused r → reading form text .sheet ≡ sheetFrom form noLines
 unfolding reading
@@ -25,7 +25,7 @@ unfolding nameAt
 no-name p e zero = refl
 no-name p e (suc j) = simp (le-leb 1 (suc j) (omega arith), lt-leb (suc j) (p .count) (omega arith))
 
-pub refused-name : (form : Form) (text : List ℕ) (r : Refusal) (j : ℕ) → readFrom form text 0 .admission ≡ Refused r
+pub refused-name : (form : Form) (text : List ℕ) (r : Refusal) (j : ℕ) → reading form text .admission ≡ Refused r
     → nameIn form text j ≡ record { start = 0; long = 0 }
-unfolding nameIn namesIn noLines noOrders
-refused-name form text r j e = no-name (namesIn form text) (ap (λ (s : SheetLines). s .orders .count) (text-good form text 0 .empty r e)) j
+unfolding nameIn reading namesFrom noLines noOrders
+refused-name form text r j e = no-name (reading form text .names) (ap (λ (s : SheetLines). s .orders .count) (text-good form text 0 .empty r e)) j

@@ -16,19 +16,20 @@ use Rattle.model.specs.declared.Refusal.the-variants.{Malformed, OutOfRange, Ki
 use Rattle.model.specs.declared.Admission.{Admission}
 use Rattle.model.specs.declared.Admission.the-variants.{Granted, Refused}
 use Rattle.model.specs.declared.Form.{Form}
-use Rattle.sheet.specs.Lines.{lineAt}
-use Rattle.sheet.specs.LineLaws.{by-test, Sound, line-sound}
-use Rattle.sheet.specs.Faults.{firstFault, lastFault}
-use Rattle.sheet.specs.FaultLaws.{refused-not-granted}
-use Rattle.sheet.specs.Tests.{kindTests, ofForm, lineFault, complete, endFault}
-use Rattle.sheet.specs.SheetLines.{noLines, withLine}
+use Rattle.lines.specs.Lines.{lineAt}
+use Rattle.fields.specs.FieldLaws.{by-test}
+use Rattle.lines.specs.LineLaws.{Sound, line-sound}
+use Rattle.rows.specs.Faults.{firstFault, lastFault}
+use Rattle.rows.specs.FaultLaws.{refused-not-granted}
+use Rattle.gather.specs.Tests.{kindTests, ofForm, lineFault, complete, endFault}
+use Rattle.gather.specs.SheetLines.{noLines, withLine}
 use Rattle.sheet.specs.Reading.{taken, refused, onLine, onAdmission, readLines, readFrom}
 use Rattle.sheet.specs.ReadingCall.{TextRefusal, tells-line}
-use Rattle.sheet.specs.declared.Line.{Line}
-use Rattle.sheet.specs.declared.LineTests.{LineTests}
-use Rattle.sheet.specs.declared.LineAt.{LineAt}
-use Rattle.sheet.specs.declared.LineAt.the-variants as A
-use Rattle.sheet.specs.declared.SheetLines.{SheetLines}
+use Rattle.lines.specs.declared.Line.{Line}
+use Rattle.rows.specs.declared.LineTests.{LineTests}
+use Rattle.lines.specs.declared.LineAt.{LineAt}
+use Rattle.lines.specs.declared.LineAt.the-variants as A
+use Rattle.gather.specs.declared.SheetLines.{SheetLines}
 use Rattle.sheet.specs.declared.SheetText.{SheetText}
 
 true-is-not-false : {A : Type 0} → _≡_ {A = Bool} true false → A
@@ -76,7 +77,7 @@ module _ (most : ℕ) where
   unfolding endFault lastFault
   end-tells form s =
       test-tells (complete form s) _ _ (of-text KindMissing (omega arith, omega arith) refl refl)
-      (test-tells (eqb (places (nth (s .capacity)) (s .«train_count»)) (s .orders .count)) _ _
+      (test-tells (eqb (places (nth (s .trains .capacity)) (s .trains .count)) (s .orders .count)) _ _
       (of-text PlacesDiffer (omega arith, omega arith) refl refl) (granted-tells most))
 
   after-admission : (a : Admission) (t : SheetText) → Tells most a → Tells most (t .admission) → Tells most (onAdmission a t .admission)

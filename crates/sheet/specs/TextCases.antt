@@ -1,16 +1,12 @@
 -- TEXTS TO TRY THE DEFINITIONS ON: document 01's printed sheet a, the timetable of case h, and texts with the refusal that each must give.
 use mathlib.Core.List.{List, [], _∷_}
 use Prim.Native.Nat.{ℕ}
-use Prim.Native.Char.{code}
 use Prim.Native.String as S
+use Rattle.fields.specs.Texts.{bytes}
 use Rattle.model.specs.declared.Refusal.{Refusal}
 use Rattle.model.specs.declared.Refusal.the-variants.{Malformed, OutOfRange, KindTooEarly, TooMany, KindMissing, OutOfOrder, PlacesDiffer}
 use Rattle.model.specs.declared.Form.{Form}
 use Rattle.model.specs.declared.Form.the-variants.{Windows, Timetable}
-
-unfoldable pub bytes : S.String → List ℕ
-bytes S.[] = []
-bytes (S._∷_ c rest) = code c ∷ bytes rest
 
 unfoldable pub text-a : List ℕ
 unfolding bytes

@@ -1,29 +1,38 @@
-// The columns of the lines as a sheet in memory.
-use crate::Orders;
-use crate::SheetLines;
+// The columns of the lines as a sheet in memory, and the places of its names.
+use fields::NamePlaces;
+use gather::SheetLines;
 use model::Form;
 use model::Sheet;
+use rows::OrderRows;
+use rows::TrainRows;
+use rows::WindowRows;
 ghost use mathlib.Core.Path.{_≡_};
-ghost use Rattle.sheet.specs.Sheets.{sheetFrom};
+ghost use Rattle.sheet.specs.Sheets.{sheetFrom, namesFrom};
 
 pub fn sheet_from(form: Form, lines: SheetLines) -> Sheet
     ensures { λ r. ⌜ r ≡ sheetFrom form lines ⌝ }
 {
     let SheetLines {
         gap,
-        window_count,
-        window_from,
-        window_to,
-        train_count,
+        windows,
+        trains,
+        orders,
+        ..
+    } = lines;
+    let WindowRows {
+        count: window_count,
+        from: window_from,
+        to: window_to,
+    } = windows;
+    let TrainRows {
+        count: train_count,
         capacity,
         running,
         departure,
         arrival,
-        orders,
-        ..
-    } = lines;
-    let Orders {
-        count,
+    } = trains;
+    let OrderRows {
+        count: order_count,
         release,
         due,
         weight,
@@ -40,9 +49,22 @@ pub fn sheet_from(form: Form, lines: SheetLines) -> Sheet
         running,
         departure,
         arrival,
-        order_count: count,
+        order_count,
         release,
         due,
         weight,
+    }
+}
+
+pub fn names_from(lines: SheetLines) -> NamePlaces
+    ensures { λ r. ⌜ r ≡ namesFrom lines ⌝ }
+{
+    let orders = lines.orders;
+    let start = orders.name_start;
+    let length = orders.name_length;
+    NamePlaces {
+        count: orders.count,
+        start,
+        length,
     }
 }

@@ -1,58 +1,20 @@
 // The lines of a text, one by one, and what they say together.
-use crate::LineAt;
-use crate::SheetLines;
 use crate::SheetText;
-use crate::faults::last_fault;
-use crate::faults::places_of;
-use crate::line_tests::by_windows;
-use crate::line_tests::line_fault;
-use crate::lines::line_at;
-use crate::more_lines::no_lines;
-use crate::more_lines::with_line;
+use gather::SheetLines;
+use gather::end_tests::end_fault;
+use gather::line_tests::line_fault;
+use gather::more_lines::no_lines;
+use gather::more_lines::with_line;
+use lines::LineAt;
+use lines::line_at;
 use model::Admission;
 use model::Form;
 use model::Refusal;
 ghost use mathlib.Core.Path.{_≡_};
 ghost use Prim.Native.Nat.{_≤_};
-ghost use Rattle.sheet.specs.Tests.{windowsComplete, complete, endFault};
+ghost use Rattle.gather.specs.Tests.{endFault};
 ghost use Rattle.sheet.specs.Reading.{taken, refused, onAdmission, readFrom};
 ghost use Rattle.model.specs.Limits.{train-counts};
-
-// The kinds that only the window form has are there.
-fn windows_complete(form: Form, lines: SheetLines) -> bool
-    ensures { λ r. ⌜ r ≡ windowsComplete form lines ⌝ }
-{
-    if by_windows(form) {
-        if lines.gap_count < 1 {
-            return false;
-        }
-        return 1 <= lines.window_count;
-    }
-    true
-}
-
-fn is_complete(form: Form, lines: SheetLines) -> bool
-    ensures { λ r. ⌜ r ≡ complete form lines ⌝ }
-{
-    if windows_complete(form, lines) {
-        if lines.train_count < 1 {
-            return false;
-        }
-        let orders = lines.orders;
-        return 1 <= orders.count;
-    }
-    false
-}
-
-fn end_fault(form: Form, lines: SheetLines) -> Admission
-    requires { ⌜ lines .«train_count» ≤ train-counts .most ⌝ }
-    ensures { λ r. ⌜ r ≡ endFault form lines ⌝ }
-{
-    let capacity = lines.capacity;
-    let places = places_of(capacity, lines.train_count);
-    let orders = lines.orders;
-    last_fault(is_complete(form, lines), places == orders.count)
-}
 
 fn refused_text(refusal: Refusal) -> SheetText
     ensures { λ r. ⌜ r ≡ refused refusal ⌝ }
@@ -66,7 +28,7 @@ fn refused_text(refusal: Refusal) -> SheetText
 
 // What the lines say once the last one is read.
 fn ended_text(form: Form, lines: SheetLines) -> SheetText
-    requires { ⌜ lines .«train_count» ≤ train-counts .most ⌝ }
+    requires { ⌜ lines .trains .count ≤ train-counts .most ⌝ }
     ensures { λ r. ⌜ r ≡ onAdmission (endFault form lines) (taken lines) ⌝ }
 {
     match end_fault(form, lines) {

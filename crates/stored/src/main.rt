@@ -1,15 +1,5 @@
 // Plans each stored sheet that the file `list` names, and prints its name and its plan.
 use libc::STDOUT_FILENO;
-use printer::Printed;
-
-fn report(text: &[u8]) {
-    let mut out: [u8; 163840] = [0; 163840];
-    let printed = desk::print_text(text, &mut out);
-    let Printed::Bytes(length) = printed else {
-        return;
-    };
-    io::write_all(STDOUT_FILENO, &out[0..length]);
-}
 
 fn plan_file(name: &[u8]) {
     io::write_all(STDOUT_FILENO, name);
@@ -22,7 +12,7 @@ fn plan_file(name: &[u8]) {
     let mut buffer = io::large_buffer();
     let length = io::read_full(file, &mut buffer);
     libc::close(file);
-    report(&buffer[..length]);
+    report::print(&buffer[..length]);
 }
 
 // The names end with byte 10 each.

@@ -3,7 +3,7 @@ use mathlib.Core.Path.{_≡_, sym, _∙_}
 use mathlib.Core.Bool.{true}
 use borrow.Author.Needs.{needs}
 use borrow.Author.Tests.{not-true, not-false}
-use Rattle.numbers.specs.Decides.{test-means}
+use Rattle.numbers.specs.DecidesLaws.{test-means}
 use Rattle.model.specs.Sheet.{Sheet}
 use Rattle.model.specs.Memory.{sheetOf}
 use Rattle.model.specs.Admission.{Few, few, complete, inRange, inOrder, balanced, admission}

@@ -1,7 +1,7 @@
 -- `planner::plan` meets its contract: the first test that fails decides, else the rounds. Assumes nothing.
 use borrow.Author.Needs.{needs}
 use mathlib.Core.Path.{sym, _∙_}
-use Rattle.numbers.specs.Decides.{test-means, test-fails}
+use Rattle.numbers.specs.DecidesLaws.{test-means, test-fails}
 use Rattle.model.specs.Memory.{sheetOf}
 use Rattle.model.specs.Admission.{Admitted}
 use Rattle.model.specs.AdmissionLaws.{admitted-means}

@@ -1,14 +1,11 @@
 -- `plan_lines` meets its contract: the passes of its lines join. Assumes nothing.
-use Rattle.printer.specs.WritingLaws.{pass-then}
-use Rattle.printer.specs.Lines.{plan-named}
+use Rattle.writing.specs.WritingLaws.{pass-then}
+use Rattle.printer.specs.PlanBytes.{plan-bytes}
 use borrow.Author.Needs.{needs}
 use Rattle.printer.proofs.plan_lines.Statement.{statement}
 use Rattle.printer.proofs.plan_lines.Tie as tie
 
 -- ---- the ways back
-
-abbrev start : tie.After-pair-lines → tie.Start
-start c = c .before .before .before .before .before .before
 
 abbrev pairs : tie.After-time-lines → tie.After-pair-lines
 pairs c = c .before .before .before .before
@@ -20,7 +17,7 @@ abbrev orders : tie.After-rounds-line → tie.After-order-lines
 orders c = c .before .before .before .before
 
 returns : tie.Need-returns
-unfolding plan-named
+unfolding plan-bytes
 returns c =
     let r = c .before .before in
     let l = orders r in
@@ -32,5 +29,5 @@ pub plan-lines-spec : {M : Type 1} → statement M
 plan-lines-spec =
     tie.close
     (tie.spec
-    (λ c κs. search needs) (λ c κs. search needs) (λ c κs. start (pairs (c .before .before .before)) .pre) (λ c κs. search needs)
+    (λ c κs. search needs) (λ c κs. search needs) (λ c κs. search needs) (λ c κs. search needs)
     (λ c. search needs) returns)

@@ -1,6 +1,6 @@
 -- `print_refusal` meets its contract: one pass counts the bytes, and a second one writes them where they fit. Assumes nothing.
-use Rattle.printer.specs.WritingLaws.{prints-short, prints-bytes}
-use Rattle.printer.specs.Lines.{refusal-line}
+use Rattle.writing.specs.WritingLaws.{prints-short, prints-bytes}
+use Rattle.layout.specs.Lines.{refusal-line}
 use borrow.Author.Needs.{needs}
 use Rattle.printer.proofs.print_refusal.Statement.{statement}
 use Rattle.printer.proofs.print_refusal.Tie as tie

@@ -8,8 +8,8 @@ use Rattle.sheet.proofs.read.Tie as tie
 returns : tie.Need-returns
 unfolding reading
 returns c =
-    let a = c .before .before .before .before .args in
-    reads (a .form) (a .text .now) _ (rw (c .sheet-from .ensures, c .before .before .whole .ensures))
+    let a = c .before .before .before .before .before .args in
+    reads (a .form) (a .text .now) _ (rw (c .names-from .ensures, c .before .sheet-from .ensures, c .before .before .before .whole .ensures))
 
 pub read-spec : {M : Type 1} → statement M
-read-spec = tie.close (tie.spec (λ c κs. search needs) (λ c κs. search needs) returns)
+read-spec = tie.close (tie.spec (λ c κs. search needs) (λ c κs. search needs) (λ c κs. search needs) returns)

@@ -7,7 +7,9 @@ use Rattle.sheet.proofs.read_timetable.Tie as tie
 
 returns : tie.Need-returns
 unfolding timetableReading
-returns c = reads-timetable (c .before .before .before .before .args .text .now) _ (rw (c .to-timetable .ensures, c .before .before .read .ensures .equal))
+returns c =
+    let text = c .before .before .before .before .before .args .text .now in
+    reads-timetable text _ (rw (c .to-timetable .ensures, c .before .before .before .read .ensures .equal))
 
 pub read-timetable-spec : {M : Type 1} → statement M
 read-timetable-spec = tie.close (tie.spec (λ c κs. search needs) (λ c κs. search needs) returns)

@@ -7,7 +7,9 @@ use Rattle.sheet.proofs.read_windows.Tie as tie
 
 returns : tie.Need-returns
 unfolding windowReading
-returns c = reads-windows (c .before .before .before .before .args .text .now) _ (rw (c .to-windows .ensures, c .before .before .read .ensures .equal))
+returns c =
+    let text = c .before .before .before .before .before .args .text .now in
+    reads-windows text _ (rw (c .to-windows .ensures, c .before .before .before .read .ensures .equal))
 
 pub read-windows-spec : {M : Type 1} → statement M
 read-windows-spec = tie.close (tie.spec (λ c κs. search needs) (λ c κs. search needs) returns)

@@ -6,7 +6,7 @@ use Rattle.admission.proofs.tests.balanced.Tie as tie
 
 returns : tie.Need-returns
 unfolding balanced
-returns c = rw (← c .places .ensures)
+returns c = rw (← c .places-of .ensures)
 
 pub balanced-spec : {M : Type 1} → statement M
 balanced-spec = tie.close (tie.spec (λ c κs. search needs) returns)

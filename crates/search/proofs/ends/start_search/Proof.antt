@@ -8,8 +8,11 @@ use Rattle.search.proofs.ends.start_search.Tie as tie
 
 returns : tie.Need-returns
 returns c =
-    let s = c .before .before in
+    let s = c .before .before .before .before in
     starts (sheetOf (s .args .sheet)) _ (s .pre .few .orders) (c .before .rank-orders .ensures) refl refl refl refl refl refl
 
 pub start-search-spec : {M : Type 1} → statement M
-start-search-spec = tie.close (tie.spec (λ c κs. c .pre .few .orders) (λ c. omega (arith, c .before .before .pre .few .trains)) returns)
+start-search-spec =
+    tie.close
+    (tie.spec
+    (λ c κs. c .before .before .pre .few .orders) (λ c. omega (arith, c .before .before .before .before .pre .few .trains)) returns)

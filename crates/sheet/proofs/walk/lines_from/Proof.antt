@@ -7,7 +7,7 @@ use lib.ListN.{length}
 use Rattle.model.specs.declared.Form.{Form}
 use Rattle.sheet.specs.Reading.{readFrom}
 use Rattle.sheet.specs.ReadingLaws.{Rest, rest-starts, rest-ends, rest-malformed, rest-faulty, rest-goes-on, next-later}
-use Rattle.sheet.specs.SheetLinesLaws.{Good, no-lines-good, one-more, lines-more}
+use Rattle.gather.specs.SheetLinesLaws.{Good, good-counts, no-lines-good, one-more, lines-more}
 use borrow.Author.Needs.{needs}
 use Rattle.sheet.proofs.walk.lines_from.Statement.{statement}
 use Rattle.sheet.proofs.walk.lines_from.Tie as tie
@@ -52,7 +52,7 @@ returns c =
 line-fault-requires : tie.Need-line-fault-requires Inv-loop μ-loop
 line-fault-requires c κs =
     let good = turn (found (c .before)) .loop .inv .1 in
-    (good .windows .few, good .trains .few)
+    good-counts _ _ good
 
 returns-2 : tie.Need-returns-2 Inv-loop μ-loop
 returns-2 c =

@@ -1,0 +1,22 @@
+// Columns of trains: train i stands at place i - 1.
+use model::limits::MOST_TRAINS;
+ghost use mathlib.Core.Path.{_≡_};
+ghost use Prim.Native.Nat.{_≤_};
+ghost use Rattle.numbers.specs.Counting.{nth};
+ghost use Rattle.model.specs.Limits.{train-counts};
+
+// The element of train i.
+pub fn of_train(column: &[u32; MOST_TRAINS], i: u8) -> u32
+    requires { ⌜ (1 ≤ i) × (i ≤ train-counts .most) ⌝ }
+    ensures { λ r. ⌜ r ≡ nth (now (column .entry)) i ⌝ }
+{
+    column[(i - 1) as usize]
+}
+
+// The element of the last of q trains.
+pub fn last_of(column: [u32; MOST_TRAINS], q: usize) -> u32
+    requires { ⌜ (1 ≤ q) × (q ≤ train-counts .most) ⌝ }
+    ensures { λ r. ⌜ r ≡ nth column q ⌝ }
+{
+    column[q - 1]
+}

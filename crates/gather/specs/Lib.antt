@@ -1,0 +1,3 @@
+pub mod SheetLines
+pub mod Tests
+pub mod SheetLinesLaws

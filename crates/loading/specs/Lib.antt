@@ -1,0 +1,4 @@
+pub mod Ranks
+pub mod RankLaws
+pub mod Open
+pub mod OnePassLaws

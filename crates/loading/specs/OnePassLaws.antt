@@ -1,0 +1,164 @@
+-- LOADING ORDER BY ORDER IS LOADING TRAIN BY TRAIN. From the greatest rank down, each order rides the last train that it may ride and that has a place
+-- left: that is its train in a greedy loading. Assumes nothing.
+use mathlib.Core.Path.{_≡_, refl, sym, ap, _∙_, subst}
+use mathlib.Core.Logic.{_⊎_, inl, inr}
+use mathlib.Core.Bool.{Bool, _&&_}
+use mathlib.Core.List.{List}
+use Prim.Native.Nat.{ℕ, suc, _-_, _≤_, _<_}
+use native.Mathlib.Omega.{arith}
+use lib.Dec.{leb}
+use lib.ListN.{length, set, take, length-take}
+use lib.Seq.{getD-take, getD-set-same, getD-set-other, ext-getD}
+use Rattle.numbers.specs.Counting.{at, nth, count}
+use Rattle.numbers.specs.DecidesLaws.{Decides, decides-le, decides-lt, decides-eq, decides-and, decided}
+use Rattle.numbers.specs.CountingLaws.{count-cong, count-lt, count-none, count-disj, count-union, count-point}
+use Rattle.model.specs.Sheet.{Sheet}
+use Rattle.rounds.specs.Rounds.{loading}
+use Rattle.rounds.specs.LoadingLaws.{on, decides-on}
+use Rattle.rounds.specs.LoadLaws.{load-greedy}
+use Rattle.rounds.specs.GreedyLaws.{Greedy}
+use Rattle.loading.specs.Ranks.{rank-among}
+use Rattle.loading.specs.RankLaws.{load-alike, rank-alike}
+use Rattle.loading.specs.Open.{SomeOpen, LastOpen}
+
+-- where some train is open, the last open one is a train
+pub opened : (left : ℕ → ℕ) (latest r : ℕ) → SomeOpen left latest → LastOpen left latest r → 1 ≤ r
+opened left latest r some o = go (decided (decides-lt r (some .train)))
+  where
+    go : (r < some .train) ⊎ (¬ (r < some .train)) → 1 ≤ r
+    go (inl u) = absurd (omega (arith, o .full (some .train) u (some .up-to), some .place))
+    go (inr u) = omega (arith, some .first)
+
+-- the loading is greedy by rank
+pub greedy-by-rank : (s : Sheet) (latest : List ℕ) → ((j : ℕ) → j < s .orders → at latest j ≤ s .trains)
+    → Greedy (s .orders) (s .capacity) (rank-among (s .release) (s .orders)) latest (loading s latest)
+greedy-by-rank s latest upto =
+    let rank = rank-among (s .release) (s .orders) in
+    subst (Greedy (s .orders) (s .capacity) rank latest)
+    (load-alike (s .release) rank (s .orders) (rank-alike (s .release) (s .orders)) latest (s .capacity) (s .trains))
+    (load-greedy (s .orders) (s .trains) rank (s .capacity) latest upto)
+
+module _ (n : ℕ) (rank capacity : ℕ → ℕ) (latest loaded : List ℕ) where
+  -- order j rides train i and has rank k or more
+  abbrev Rides : (i k j : ℕ) → Type 0
+  Rides i k j = (at loaded j ≡ i) × (k ≤ rank j)
+
+  abbrev rides : (i k j : ℕ) → Bool
+  rides i k j = on loaded i j && leb k (rank j)
+
+  decides-rides : (i k j : ℕ) → Decides (Rides i k j) (rides i k j)
+  decides-rides i k j = decides-and (decides-on loaded i j) (decides-le k (rank j))
+
+  -- the orders of rank k or more have their trains, the others still their latest trains, and the places left are those that nobody has taken
+  pub record Part (k : ℕ) (train left : List ℕ) : Type 0 where
+    pub done : (j : ℕ) → j < n → k ≤ rank j → at train j ≡ at loaded j
+    pub ahead : (j : ℕ) → j < n → rank j < k → at train j ≡ at latest j
+    pub places : (i : ℕ) → 1 ≤ i → nth left i ≡ capacity i - count (rides i k) n
+
+  pub part-start : (k : ℕ) (train left : List ℕ) → k ≡ n → ((j : ℕ) → j < n → rank j < n) → ((j : ℕ) → j < n → at train j ≡ at latest j)
+      → ((i : ℕ) → 1 ≤ i → nth left i ≡ capacity i) → Part k train left
+  part-start k train left all low same full =
+      record {
+        done = λ j l h. absurd (omega (arith, low j l));
+        ahead = λ j l h. same j l;
+        places = λ i l. omega (arith, full i l, count-none (decides-rides i k) n (λ j m h. omega (arith, h .1, low j m)));
+      }
+
+  pub part-all : (k : ℕ) (train left : List ℕ) → k ≡ 0 → n ≤ length train → length loaded ≡ n → Part k train left → take n train ≡ loaded
+  part-all k train left none long size part =
+      let short : length (take n train) ≡ n = omega (arith, length-take n train) in
+      ext-getD 0 (take n train) loaded (short ∙ sym size)
+      (λ j h. let l : j < n = omega (arith, h, short) in getD-take n train j 0 l ∙ part .done j l (omega arith))
+
+  -- the next order, of rank p, where no two orders have one rank
+  module _ (greedy : Greedy n capacity rank latest loaded) (own : (j k : ℕ) → j < n → k < n → rank j ≡ rank k → j ≡ k)
+      (p : ℕ) (train left : List ℕ) (part : Part (suc p) train left) (j : ℕ) (l : j < n) (is : rank j ≡ p) (some : 1 ≤ at loaded j) where
+    may : at train j ≡ at latest j
+    may = part .ahead j l (omega arith)
+
+    -- its own train has a place left, since it has not taken it yet
+    place-left : 1 ≤ nth left (at loaded j)
+    place-left =
+        omega (
+          arith,
+          part .places (at loaded j) some,
+          greedy .room (at loaded j) some,
+          count-lt (decides-rides (at loaded j) (suc p)) (decides-on loaded (at loaded j)) n j l refl (λ h. omega (arith, h .1)) (λ y m h. h .0),
+        )
+
+    -- a later train that it may ride is full, of orders of greater rank
+    no-place : (i : ℕ) → at loaded j < i → i ≤ at latest j → nth left i ≡ 0
+    no-place i above low =
+        omega (
+          arith,
+          part .places i (omega arith),
+          greedy .full j i l above low,
+          count-cong (decides-rides i (suc p)) (decides-on loaded i) n (λ y m h. h .0)
+              (λ y m e. (e, go y m e (decided (decides-eq (rank y) p)))),
+        )
+      where
+        go : (y : ℕ) → y < n → at loaded y ≡ i → (rank y ≡ p) ⊎ (¬ (rank y ≡ p)) → suc p ≤ rank y
+        go y m e (inl u) = let z : y ≡ j = own y j m l (u ∙ sym is) in absurd (omega (arith, ap (at loaded) z))
+        go y m e (inr u) = omega (arith, greedy .led j i y l m above low e)
+
+    pub some-open : SomeOpen (nth left) (at train j)
+    some-open = record { train = at loaded j; first = some; up-to = omega (arith, may, greedy .keeps j l); place = place-left }
+
+    pub is-train : (r : ℕ) → LastOpen (nth left) (at train j) r → 1 ≤ r → r ≡ at loaded j
+    is-train r o first = go (decided (decides-lt r (at loaded j))) (decided (decides-lt (at loaded j) r))
+      where
+        go : (r < at loaded j) ⊎ (¬ (r < at loaded j)) → (at loaded j < r) ⊎ (¬ (at loaded j < r)) → r ≡ at loaded j
+        go (inl u) v = absurd (omega (arith, o .full (at loaded j) u (omega (arith, may, greedy .keeps j l)), place-left))
+        go (inr u) (inl v) = absurd (omega (arith, o .place first, no-place r v (omega (arith, may, o .up-to))))
+        go (inr u) (inr v) = omega arith
+
+    -- one more on its train, and none on the others
+    own-more : count (rides (at loaded j) p) n ≡ suc (count (rides (at loaded j) (suc p)) n)
+    own-more =
+        omega (
+          arith,
+          count-point n j l,
+          count-disj (λ y. decides-eq y j) (decides-rides (at loaded j) (suc p)) (decides-rides (at loaded j) p) n
+              (λ y m e. (ap (at loaded) e, omega (arith, is, ap rank e))) (λ y m h. (h .0, omega (arith, h .1)))
+              (λ y m e h. omega (arith, h .1, is, ap rank e)),
+          count-union (λ y. decides-eq y j) (decides-rides (at loaded j) (suc p)) (decides-rides (at loaded j) p) n
+              (λ y m h. go y m h (decided (decides-eq (rank y) p))),
+        )
+      where
+        go : (y : ℕ) → y < n → Rides (at loaded j) p y → (rank y ≡ p) ⊎ (¬ (rank y ≡ p)) → (y ≡ j) ⊎ Rides (at loaded j) (suc p) y
+        go y m h (inl u) = inl (own y j m l (u ∙ sym is))
+        go y m h (inr u) = inr (h .0, omega (arith, h .1))
+
+    others-same : (i : ℕ) → ¬ (i ≡ at loaded j) → count (rides i p) n ≡ count (rides i (suc p)) n
+    others-same i other =
+        count-cong (decides-rides i p) (decides-rides i (suc p)) n (λ y m h. (h .0, go y m h (decided (decides-eq (rank y) p))))
+        (λ y m h. (h .0, omega (arith, h .1)))
+      where
+        go : (y : ℕ) → y < n → Rides i p y → (rank y ≡ p) ⊎ (¬ (rank y ≡ p)) → suc p ≤ rank y
+        go y m h (inl u) = absurd (other (sym (h .0) ∙ ap (at loaded) (own y j m l (u ∙ sym is))))
+        go y m h (inr u) = omega (arith, h .1)
+
+    -- it takes its place
+    pub part-next : (r : ℕ) → r ≡ at loaded j → j < length train → r - 1 < length left
+        → Part p (set train j r) (set left (r - 1) (nth left r - 1))
+    part-next r e long long′ =
+        record {
+          done = λ y m h. then y m h (decided (decides-eq y j));
+          ahead = λ y m h. getD-set-other train j y r 0 (λ u. omega (arith, is, ap rank u)) ∙ part .ahead y m (omega arith);
+          places = λ i k. left-over i k (decided (decides-eq i r));
+        }
+      where
+        then : (y : ℕ) → y < n → p ≤ rank y → (y ≡ j) ⊎ (¬ (y ≡ j)) → at (set train j r) y ≡ at loaded y
+        then y m h (inl u) = rw u (getD-set-same train j r 0 long ∙ e)
+        then y m h (inr u) =
+            let v : ¬ (rank y ≡ p) = λ w. u (own y j m l (w ∙ sym is)) in
+            getD-set-other train j y r 0 u ∙ part .done y m (omega arith)
+
+        left-over : (i : ℕ) → 1 ≤ i → (i ≡ r) ⊎ (¬ (i ≡ r)) → nth (set left (r - 1) (nth left r - 1)) i ≡ capacity i - count (rides i p) n
+        left-over i k (inl u) =
+            rw (u, e)
+            (getD-set-same left (at loaded j - 1) (nth left (at loaded j) - 1) 0 (rw e at long′)
+            ∙ omega (arith, part .places (at loaded j) some, own-more))
+        left-over i k (inr u) =
+            getD-set-other left (r - 1) (i - 1) (nth left r - 1) 0 (λ v. u (omega arith)) ∙ part .places i k
+            ∙ ap (λ (m : ℕ). capacity i - m) (sym (others-same i (λ w. u (w ∙ sym e))))

@@ -1,0 +1,292 @@
+-- Laws by which code is shown to compute step 2, a branch or a turn at a time. Assumes nothing.
+use mathlib.Core.Path.{_≡_, refl, sym, ap, _∙_, subst}
+use mathlib.Core.Logic.{_⊎_, inl, inr}
+use mathlib.Core.Bool.{Bool, true, false, cond}
+use mathlib.Core.List.{List, [], _∷_, _++_}
+use Prim.Native.Nat.{ℕ, zero, suc, _+_, _-_, _≤_, _<_, max}
+use native.Mathlib.Numerals.{add-one}
+use native.Mathlib.Omega.{arith}
+use lib.Dec.{leb}
+use lib.ListN.{length, set, take, replicate, length-set}
+use lib.Seq.{take-suc, take-suc-set, getD-take, getD-set-same, getD-set-other, ext-getD}
+use borrow.Author.Tests.{le-leb, lt-leb, eq-eqb, ne-eqb}
+use Rattle.numbers.specs.Counting.{at, nth, table, row, each}
+use Rattle.numbers.specs.DecidesLaws.{decided, decides-eq}
+use Rattle.numbers.specs.CountingLaws.{every-same-below, table-length, table-at}
+use Rattle.columns.specs.ColumnLaws.{nth-at}
+use Rattle.model.specs.Sheet.{Windows, Paths, windows, timetable}
+use Rattle.model.specs.Arrival.{arrivalBehind}
+use Rattle.model.specs.ArrivalLaws.{arrival-first, arrival-next}
+use Rattle.model.specs.Limits.{train-counts}
+use Rattle.model.specs.Memory.{pathsBy, sheetOf}
+use Rattle.model.specs.declared.Form.{Form}
+use Rattle.model.specs.declared.Sheet as memory
+use Rattle.rounds.specs.Rounds.{times}
+use Rattle.rounds.specs.TimingLaws.{FirstWindow, all-over, first-is, first-window-is}
+use Rattle.rounds.specs.Timing.{ready, or-window, first-window, earliest, none, departed, leave, next-departure, departures}
+use Rattle.rounds.specs.Timing.{arrive, on-timetable, stopped, timed, timing}
+use Rattle.timing.specs.Timed.{departed-in}
+
+-- ---- the releases on the trains
+
+module _ (release : ℕ → ℕ) (train : List ℕ) where
+  pub releases-none : replicate 32 0 ≡ row (ready release train 0) 32
+  unfolding table ready
+  releases-none = refl
+
+  ready-own : (j i : ℕ) → at train j ≡ i → max (release j) (ready release train j i) ≡ ready release train (j + 1) i
+  unfolding ready
+  ready-own j i e = rw (add-one, eq-eqb (at train j) i e)
+
+  ready-other : (j i : ℕ) → ¬ (at train j ≡ i) → ready release train j i ≡ ready release train (j + 1) i
+  unfolding ready
+  ready-other j i e = rw (add-one, ne-eqb (at train j) i e) (omega arith)
+
+  -- the order at place j, on train t, is counted in
+  pub releases-more : (q j t : ℕ) (l : List ℕ) → l ≡ row (ready release train j) q → at train j ≡ t → 1 ≤ t → t ≤ q
+      → set l (t - 1) (max (release j) (at l (t - 1))) ≡ row (ready release train (j + 1)) q
+  releases-more q j t l e on some few =
+      ext-getD 0 (set l (t - 1) v) (row (ready release train (j + 1)) q) (long ∙ sym (table-length _ q))
+      (λ k h. go k (omega (arith, long)) (decided (decides-eq k (t - 1))))
+    where
+      v : ℕ
+      v = max (release j) (at l (t - 1))
+
+      size : length l ≡ q
+      size = ap (λ (x : List ℕ). length x) e ∙ table-length (λ m. ready release train j (suc m)) q
+
+      long : length (set l (t - 1) v) ≡ q
+      long = length-set l (t - 1) v ∙ size
+
+      old : (k : ℕ) → k < q → at l k ≡ ready release train j (suc k)
+      old k h = ap (λ (x : List ℕ). at x k) e ∙ table-at (λ m. ready release train j (suc m)) 0 q k h
+
+      go : (k : ℕ) → k < q → (k ≡ t - 1) ⊎ (¬ (k ≡ t - 1)) → at (set l (t - 1) v) k ≡ at (row (ready release train (j + 1)) q) k
+      go k h (inl u) =
+          let here : at train j ≡ suc k = omega arith in
+          rw (← u, getD-set-same l k (max (release j) (at l k)) 0 (omega (arith, size)), old k h, ready-own j (suc k) here)
+          (sym (table-at (λ m. ready release train (j + 1) (suc m)) 0 q k h))
+      go k h (inr u) =
+          getD-set-other l (t - 1) k v 0 u ∙ old k h ∙ ready-other j (suc k) (λ w. u (omega arith))
+          ∙ sym (table-at (λ m. ready release train (j + 1) (suc m)) 0 q k h)
+
+-- ---- windows
+
+module _ (to : List ℕ) (t : ℕ) where
+  pub window-none : first-window (nth to) t 0 ≡ 0
+  unfolding first-window
+  window-none = refl
+
+  pub window-over : (m : ℕ) → first-window (nth to) t m ≡ 0 → at to m < t → first-window (nth to) t (m + 1) ≡ 0
+  unfolding first-window or-window
+  window-over m e l = rw (add-one, e, nth-at to m, lt-leb t (at to m) l)
+
+  -- the first one that is not over is the first of all
+  pub window-first : (v m : ℕ) → m < v → first-window (nth to) t m ≡ 0 → t ≤ at to m → m + 1 ≡ first-window (nth to) t v
+  unfolding first-window or-window
+  window-first zero m l e h = absurd (omega arith)
+  window-first (suc v) m l e h = go (decided (decides-eq m v)) (λ k. window-first v m k e h)
+    where
+      go : (m ≡ v) ⊎ (¬ (m ≡ v)) → (m < v → m + 1 ≡ first-window (nth to) t v) → m + 1 ≡ or-window (nth to) t (suc v) (first-window (nth to) t v)
+      go (inl s) ih = rw (add-one, sym s, e, nth-at to m, le-leb t (at to m) h)
+      go (inr s) ih = rw (← (ih (omega arith)), add-one)
+
+-- a window that was found
+pub record OpenAt (to : ℕ → ℕ) (t v m : ℕ) : Type 0 where
+  pub numbered : 1 ≤ m
+  pub counted : m ≤ v
+  pub not-over : t ≤ to m
+
+pub open-window : (to : ℕ → ℕ) (t v m : ℕ) → m ≡ first-window to t v → ¬ (m ≡ 0) → OpenAt to t v m
+open-window to t v m e h = go m h (subst (FirstWindow to t v) (sym e) (first-window-is to t v))
+  where
+    go : (m : ℕ) → ¬ (m ≡ 0) → FirstWindow to t v m → OpenAt to t v m
+    go m h (all-over f) = absurd (h refl)
+    go m h (first-is k few over before) = record { numbered = omega arith; counted = few; not-over = over }
+
+-- ---- the instant to await
+
+module _ (g : ℕ) (l : List ℕ) (i r : ℕ) where
+  pub earliest-first : i ≡ 0 → r ≡ earliest g (take i l) i r
+  unfolding earliest
+  earliest-first e = rw e
+
+  pub earliest-behind : ¬ (i ≡ 0) → max (nth l i + g) r ≡ earliest g (take i l) i r
+  unfolding earliest
+  earliest-behind e = go i e
+    where
+      go : (i : ℕ) → ¬ (i ≡ 0) → max (nth l i + g) r ≡ earliest g (take i l) i r
+      go zero e = absurd (e refl)
+      go (suc i) e = rw (getD-take (suc i) l (suc i - 1) 0 (omega arith))
+
+-- ---- departures
+
+module _ (w : Windows) (released : ℕ → ℕ) where
+  departures-none : (k i : ℕ) → i ≤ k → departures w released i ≡ none → departures w released k ≡ none
+  unfolding departures next-departure
+  departures-none zero i l e = let z : i ≡ 0 = omega arith in rw z at e
+  departures-none (suc k) i l e = go (decided (decides-eq i (suc k))) (λ h. departures-none k i h e)
+    where
+      go : (i ≡ suc k) ⊎ (¬ (i ≡ suc k)) → (i ≤ k → departures w released k ≡ none)
+          → next-departure w k (released (suc k)) (departures w released k) ≡ none
+      go (inl s) ih = rw s at e
+      go (inr s) ih = rw (ih (omega arith))
+
+  pub departures-first : (l : List ℕ) → departures w released 0 ≡ departed (take 0 l)
+  unfolding departures
+  departures-first l = refl
+
+  module _ (l : List ℕ) (i t m : ℕ) (ahead : departures w released i ≡ departed (take i l))
+      (et : t ≡ earliest (w .gap) (take i l) i (released (suc i))) (em : m ≡ first-window (w .to) t (w .count)) where
+    turn : departures w released (suc i) ≡ leave w t (take i l) m
+    unfolding departures next-departure
+    turn = rw (ahead, sym et, sym em)
+
+    -- no window for train i + 1: none for the trains together
+    pub departures-stop : m ≡ 0 → (q : ℕ) → i < q → none ≡ departures w released q
+    unfolding leave
+    departures-stop e q h = sym (departures-none q (suc i) h (turn ∙ rw e))
+
+    -- train i + 1 leaves in window m
+    pub departures-next : ¬ (m ≡ 0) → i < length l → departures w released (i + 1) ≡ departed (take (i + 1) (set l i (max t (w .from m))))
+    unfolding leave
+    departures-next e h = rw add-one (turn ∙ go m e ∙ ap departed (sym (take-suc-set l i (max t (w .from m)) h)))
+      where
+        go : (m : ℕ) → ¬ (m ≡ 0) → leave w t (take i l) m ≡ departed (take i l ++ (max t (w .from m) ∷ []))
+        go zero e = absurd (e refl)
+        go (suc m) e = refl
+
+-- ---- arrivals
+
+-- a list is the row of its elements
+pub row-nth : (l : List ℕ) (q : ℕ) → q ≤ length l → row (nth l) q ≡ take q l
+unfolding table
+row-nth l zero h = refl
+row-nth l (suc q) h = rw (take-suc l q 0, row-nth l q (omega arith), nth-at l q)
+
+-- the store of element number i + 1, behind those before it
+row-store : (f : ℕ → ℕ) (l : List ℕ) (i v : ℕ) → take i l ≡ row f i → i < length l → v ≡ f (suc i) → take (suc i) (set l i v) ≡ row f (suc i)
+unfolding table
+row-store f l i v e h u = take-suc-set l i v h ∙ rw (e, u)
+
+module _ (g : ℕ) (p : ℕ → ℕ) where
+  pub arrival-alone : (S : ℕ → ℕ) (i : ℕ) → i ≡ 0 → S (suc i) + p (suc i) ≡ arrivalBehind g p S (suc i)
+  arrival-alone S i e = rw e (sym (arrival-first g p S))
+
+  pub arrival-behind : (S : ℕ → ℕ) (i : ℕ) → ¬ (i ≡ 0) → max (S (suc i) + p (suc i)) (arrivalBehind g p S i + g) ≡ arrivalBehind g p S (suc i)
+  arrival-behind S zero e = absurd (e refl)
+  arrival-behind S (suc i) e = sym (arrival-next g p S i)
+
+  -- departures that agree give the same arrivals
+  arrival-same : (S T : ℕ → ℕ) (i : ℕ) → ((k : ℕ) → 1 ≤ k → k ≤ i → S k ≡ T k) → arrivalBehind g p S i ≡ arrivalBehind g p T i
+  unfolding arrivalBehind
+  arrival-same S T zero h = refl
+  arrival-same S T (suc zero) h = rw (h 1 (omega arith) (omega arith))
+  arrival-same S T (suc (suc i)) h =
+      rw (h (suc (suc i)) (omega arith) (omega arith), arrival-same S T (suc i) (λ k a b. h k a (omega arith)))
+
+  -- only the departures of the q trains count
+  pub row-arrivals : (departure : List ℕ) (q : ℕ) → row (arrivalBehind g p (nth departure)) q ≡ row (arrivalBehind g p (nth (take q departure))) q
+  unfolding table
+  row-arrivals departure q = go q (omega arith)
+    where
+      go : (k : ℕ) → k ≤ q → row (arrivalBehind g p (nth departure)) k ≡ row (arrivalBehind g p (nth (take q departure))) k
+      go zero h = refl
+      go (suc k) h =
+          rw (go k (omega arith), arrival-same (nth departure) (nth (take q departure)) (suc k) (λ m a b. sym (getD-take q departure (m - 1) 0 (omega arith))))
+
+-- the arrivals of trains 1 to i, where l has those of the trains ahead of train i
+module _ (g : ℕ) (running departure l : List ℕ) where
+  abbrev arrives : ℕ → ℕ
+  arrives = arrivalBehind g (nth running) (nth departure)
+
+  pub ahead-is : (j : ℕ) → take j l ≡ row arrives j → ¬ (j ≡ 0) → at l (j - 1) ≡ arrives j
+  ahead-is zero e h = absurd (h refl)
+  ahead-is (suc j) e h =
+      let u : suc j - 1 ≡ j = omega arith in
+      rw u (sym (getD-take (suc j) l j 0 (omega arith)) ∙ ap (λ (x : List ℕ). at x j) e ∙ table-at (λ m. arrives (suc m)) 0 (suc j) j (omega arith))
+
+  pub arrivals-none : (i : ℕ) → i ≡ 0 → take i l ≡ row arrives i
+  unfolding table
+  arrivals-none i e = rw e
+
+  pub arrivals-more : (i v : ℕ) → ¬ (i ≡ 0) → i ≤ length l → take (i - 1) l ≡ row arrives (i - 1) → v ≡ arrives i → take i (set l (i - 1) v) ≡ row arrives i
+  arrivals-more zero v some few e w = absurd (some refl)
+  arrivals-more (suc j) v some few e w =
+      let u : suc j - 1 ≡ j = omega arith in rw u (row-store arrives l j v (rw u at e) few w)
+
+  -- train j + 1 is the first one, or runs behind train j
+  arrives-next : (j own : ℕ) → own ≡ nth departure (suc j) + nth running (suc j) → take j l ≡ row arrives j
+      → earliest g (take j l) j own ≡ arrives (suc j)
+  unfolding earliest
+  arrives-next zero own e h = e ∙ arrival-alone g (nth running) (nth departure) 0 refl
+  arrives-next (suc j) own e h =
+      let u : suc j - 1 ≡ j = omega arith in
+      let ahead : at (take (suc j) l) (suc j - 1) ≡ arrives (suc j) =
+      getD-take (suc j) l (suc j - 1) 0 (omega arith) ∙ ahead-is (suc j) h (λ z. omega arith) in
+      rw (ahead, e) (swap (arrives (suc j) + g) _ ∙ arrival-behind g (nth running) (nth departure) (suc j) (λ z. omega arith))
+    where
+      swap : (a b : ℕ) → max a b ≡ max b a
+      swap a b = omega arith
+
+  pub arrives-behind : (i own : ℕ) → ¬ (i ≡ 0) → own ≡ nth departure i + nth running i → take (i - 1) l ≡ row arrives (i - 1)
+      → earliest g (take (i - 1) l) (i - 1) own ≡ arrives i
+  arrives-behind zero own some e h = absurd (some refl)
+  arrives-behind (suc j) own some e h = let u : suc j - 1 ≡ j = omega arith in rw u (arrives-next j own e (rw u at h))
+
+-- ---- every train
+
+-- a release exceeds its train's departure, or not
+module _ (released departure : List ℕ) (i : ℕ) where
+  pub exceeds : at departure i < at released i → leb (nth released (suc i)) (nth departure (suc i)) ≡ false
+  exceeds h = rw (nth-at released i, nth-at departure i) (lt-leb (at released i) (at departure i) h)
+
+  pub in-time : at released i ≤ at departure i → leb (nth released (suc i)) (nth departure (suc i)) ≡ true
+  in-time h = rw (nth-at released i, nth-at departure i) (le-leb (at released i) (at departure i) h)
+
+-- ---- the timing, whole: only what is released for the q trains counts
+
+module _ (f g : ℕ → ℕ) where
+  departures-same : (w : Windows) (i : ℕ) → ((k : ℕ) → k < i → f (suc k) ≡ g (suc k)) → departures w f i ≡ departures w g i
+  unfolding departures
+  departures-same w zero h = refl
+  departures-same w (suc i) h = rw (departures-same w i (λ k l. h k (omega arith)), h i (omega arith))
+
+  pub timing-same : (paths : Paths) (q : ℕ) → ((k : ℕ) → k < q → f (suc k) ≡ g (suc k)) → timing paths q f ≡ timing paths q g
+  unfolding timing on-timetable
+  timing-same (windows w) q h = rw (departures-same w q h)
+  timing-same (timetable t) q h =
+      rw (every-same-below (λ m. leb (f (suc m)) (t .departure (suc m))) (λ m. leb (g (suc m)) (t .departure (suc m))) q (λ j l. rw (h j l)))
+
+pub windows-timed : (w : Windows) (released : ℕ → ℕ) (q : ℕ) (leaves : Bool) (departure arrival : List ℕ)
+    → departed-in q leaves departure ≡ departures w released q → take q arrival ≡ row (arrivalBehind (w .gap) (w .running) (nth departure)) q
+    → cond leaves (timed (take q departure) (take q arrival)) stopped ≡ timing (windows w) q released
+unfolding timing arrive
+windows-timed w released q true departure arrival e f = rw (← e) (ap (timed (take q departure)) (f ∙ row-arrivals (w .gap) (w .running) departure q))
+windows-timed w released q false departure arrival e f = rw (← e)
+
+module _ (departure arrival : List ℕ) (q : ℕ) where
+  pub fixed-timed : (b : Bool) → q ≤ length departure → q ≤ length arrival
+      → cond b (timed (take q departure) (take q arrival)) stopped ≡ cond b (timed (row (nth departure) q) (row (nth arrival) q)) stopped
+  fixed-timed b few few′ = rw (row-nth departure q few, row-nth arrival q few′)
+
+  pub timetable-timed : (released : ℕ → ℕ) (b : Bool) → b ≡ each (λ i. leb (released i) (nth departure i)) q
+      → cond b (timed (row (nth departure) q) (row (nth arrival) q)) stopped
+      ≡ timing (timetable (record { departure = nth departure; arrival = nth arrival })) q released
+  unfolding timing on-timetable
+  timetable-timed released b e = rw e
+
+-- the releases of all trains there can be, of which q count; the form decides which timing it is
+pub timed-by-form : (m : memory.Sheet) (train released : List ℕ) (form : Form) → m .form ≡ form → m .«train_count» ≤ train-counts .most
+    → released ≡ row (ready (at (m .release)) (take (m .«order_count») train) (m .«order_count»)) (train-counts .most)
+    → timing (pathsBy form m) (m .«train_count») (nth released) ≡ times (sheetOf m) (take (m .«order_count») train)
+timed-by-form m train released form is few e =
+    timing-same (nth released) f (pathsBy form m) q
+    (λ k h. nth-at released k ∙ ap (λ (x : List ℕ). at x k) e ∙ table-at (λ j. f (suc j)) 0 (train-counts .most) k (omega arith))
+    ∙ ap (λ (form : Form). timing (pathsBy form m) q f) (sym is)
+  where
+    q : ℕ
+    q = m .«train_count»
+
+    f : ℕ → ℕ
+    f = ready (at (m .release)) (take (m .«order_count») train) (m .«order_count»)
