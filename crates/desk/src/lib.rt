@@ -26,6 +26,7 @@ pub fn print_text(text: &[u8], page: &mut [u8; MOST_PRINTED]) -> usize
     ensures { λ r. ⌜ TextPrinted (now (text .entry)) (now (page .entry)) r (now (page .exit)) ⌝ }
 {
     let printed = put_text(text, page);
+    // There is no other case: the contract says how many bytes a text has, and that they fit.
     let Printed::Bytes(length) = printed else {
         return 0;
     };
