@@ -15,8 +15,8 @@ use Rattle.rows.specs.OrderLines.{noOrders, orderTests, withOrder}
 use Rattle.lines.specs.declared.Order.{Order}
 use Rattle.rows.specs.declared.OrderRows.{OrderRows}
 
-abbrev pub Times : ℕ → ℕ → Type 0
-Times release due = Inside release-range release × Inside due-range due
+abbrev pub OrderTimes : ℕ → ℕ → Type 0
+OrderTimes release due = Inside release-range release × Inside due-range due
 
 pub record GoodOrders (o : OrderRows) : Type 0 where
   pub few : o .count ≤ 200
@@ -25,7 +25,7 @@ pub record GoodOrders (o : OrderRows) : Type 0 where
   pub weight-long : length (o .weight) ≡ 200
   pub start-long : length (o .«name_start») ≡ 200
   pub length-long : length (o .«name_length») ≡ 200
-  pub times : Rows Times (o .release) (o .due) (o .count)
+  pub times : Rows OrderTimes (o .release) (o .due) (o .count)
   pub weights : Column (Inside weight-range) (o .weight) (o .count)
 
 -- every name lies in the text
@@ -64,7 +64,7 @@ module _ (late : Bool) (o : OrderRows) (x : Order) (e : NoFault (orderTests late
         start-long = simp length-set (g .start-long);
         length-long = simp length-set (g .length-long);
         times =
-            rows-more Times (o .release) (o .due) (o .count) (x .release) (x .due)
+            rows-more OrderTimes (o .release) (o .due) (o .count) (x .release) (x .due)
             (omega (arith, g .release-long)) (omega (arith, g .due-long)) (g .times)
             (inside-means release-range (x .release) release, inside-means due-range (x .due) due);
         weights =

@@ -11,11 +11,11 @@ use Rattle.rows.specs.declared.OrderRows.{OrderRows}
 unfoldable pub noOrders : OrderRows
 noOrders = record {
   count = 0;
-  release = replicate 200 0;
-  due = replicate 200 0;
-  weight = replicate 200 0;
-  «name_start» = replicate 200 0;
-  «name_length» = replicate 200 0;
+  release = replicate (order-counts .most) 0;
+  due = replicate (order-counts .most) 0;
+  weight = replicate (order-counts .most) 0;
+  «name_start» = replicate (order-counts .most) 0;
+  «name_length» = replicate (order-counts .most) 0;
 }
 
 abbrev pub orderInRange : Order → Bool

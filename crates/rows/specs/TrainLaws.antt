@@ -20,8 +20,8 @@ use Rattle.lines.specs.declared.Train.{Train}
 use Rattle.lines.specs.declared.FixedTrain.{FixedTrain}
 use Rattle.rows.specs.declared.TrainRows.{TrainRows}
 
-abbrev pub Times : ℕ → ℕ → Type 0
-Times departure arrival = Inside departure-range departure × Inside arrival-range arrival
+abbrev pub TrainTimes : ℕ → ℕ → Type 0
+TrainTimes departure arrival = Inside departure-range departure × Inside arrival-range arrival
 
 -- the capacities of the trains
 pub record GoodTrains (s : TrainRows) : Type 0 where
@@ -38,7 +38,7 @@ pub record GoodRuns (s : TrainRows) : Type 0 where
 pub record GoodTimes (s : TrainRows) : Type 0 where
   pub departure-long : length (s .departure) ≡ 32
   pub arrival-long : length (s .arrival) ≡ 32
-  pub times : Rows Times (s .departure) (s .arrival) (s .count)
+  pub times : Rows TrainTimes (s .departure) (s .arrival) (s .count)
   pub forward : Rows _<_ (s .departure) (s .arrival) (s .count)
   pub departures : Steps _<_ (s .departure) (s .departure) (s .count)
   pub arrivals : Steps _<_ (s .arrival) (s .arrival) (s .count)
@@ -126,7 +126,7 @@ module _ (late : Bool) (s : TrainRows) where
           departure-long = simp length-set (h .departure-long);
           arrival-long = simp length-set (h .arrival-long);
           times =
-              rows-more Times (s .departure) (s .arrival) n (t .departure) (t .arrival) d a (h .times)
+              rows-more TrainTimes (s .departure) (s .arrival) n (t .departure) (t .arrival) d a (h .times)
               (inside-means departure-range (t .departure) (fixed-ranges .0 .1), inside-means arrival-range (t .arrival) (fixed-ranges .1));
           forward =
               rows-more _<_ (s .departure) (s .arrival) n (t .departure) (t .arrival) d a (h .forward) (ltb-true (t .departure) (t .arrival) ahead);

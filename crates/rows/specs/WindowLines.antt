@@ -11,7 +11,7 @@ use Rattle.rows.specs.declared.LineTests.{LineTests}
 use Rattle.rows.specs.declared.WindowRows.{WindowRows}
 
 unfoldable pub noWindows : WindowRows
-noWindows = record { count = 0; from = replicate 64 0; to = replicate 64 0 }
+noWindows = record { count = 0; from = replicate (window-counts .most) 0; to = replicate (window-counts .most) 0 }
 
 -- 2, "value outside its range"
 abbrev pub windowInRange : Window → Bool

@@ -22,7 +22,7 @@ use Rattle.gather.specs.SheetLinesLaws.{Good}
 use Rattle.sheet.specs.TextLaws.{text-good}
 use Rattle.sheet.specs.Sheets.{sheetFrom, reading}
 use Rattle.rows.specs.WindowLaws.{Ends}
-use Rattle.rows.specs.TrainLaws.{Times}
+use Rattle.rows.specs.TrainLaws.{TrainTimes}
 use Rattle.gather.specs.declared.SheetLines.{SheetLines}
 
 -- what goes by the form
@@ -60,7 +60,7 @@ paths-admitted Timetable s h e =
       few = tt;
       some = tt;
       in-range = λ i l k.
-          let times = rows-numbered Times (s .trains .departure) (s .trains .arrival) q (h .paths .times) i l k in
+          let times = rows-numbered TrainTimes (s .trains .departure) (s .trains .arrival) q (h .paths .times) i l k in
           record { departure = times .0; arrival = times .1 };
       in-order =
           record {
