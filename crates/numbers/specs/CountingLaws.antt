@@ -159,9 +159,6 @@ pub every-more : (p : ℕ → Bool) (n : ℕ) → every p (n + 1) ≡ (p n && ev
 unfolding every
 every-more p n = rw add-one
 
-pub every-next : (p : ℕ → Bool) (n : ℕ) → every p n ≡ true → p n ≡ true → every p (n + 1) ≡ true
-every-next p n e h = every-more p n ∙ rw (h, e)
-
 pub every-fails : (p : ℕ → Bool) (n j : ℕ) → j < n → p j ≡ false → every p n ≡ false
 unfolding every
 every-fails p zero j l e = absurd (omega arith)

@@ -1,25 +1,35 @@
 -- What the timing code asks of a loading, and what its results say of q trains.
 use mathlib.Core.Path.{_≡_}
-use mathlib.Core.Bool.{Bool, cond}
+use mathlib.Core.Bool.{cond}
 use mathlib.Core.List.{List}
-use Prim.Native.Nat.{ℕ, _≤_, _<_}
+use Prim.Native.Nat.{ℕ, suc, _≤_, _<_}
+use lib.Dec.{ltb}
 use lib.ListN.{length, take}
-use Rattle.numbers.specs.Counting.{at}
+use Rattle.numbers.specs.Counting.{at, nth}
 use Rattle.model.specs.Limits.{last-instant, train-counts}
-use Rattle.rounds.specs.Timing.{Departed, none, departed, Timed, stopped, timed}
 use Rattle.columns.specs.Columns.{UpTo}
+use Rattle.rounds.specs.Timing.{Departed, none, departed, Timed, stopped, timed}
 use Rattle.timing.specs.declared.Times.{Times}
 
 -- each of n orders is on a train
 abbrev pub OnTrains : (n : ℕ) (train : List ℕ) → Type 0
 OnTrains n train = (j : ℕ) → j < n → (1 ≤ at train j) × (at train j ≤ train-counts .most)
 
--- a column with room for every train's departure, none after the last instant
-abbrev pub InTime : (departure : List ℕ) → Type 0
-InTime departure = (length departure ≡ train-counts .most) × UpTo last-instant (train-counts .most) departure
+-- the departure of a train that finds no window
+abbrev pub never : ℕ
+never = suc last-instant
 
-abbrev pub departed-in : (q : ℕ) (leaves : Bool) (departure : List ℕ) → Departed
-departed-in q leaves departure = cond leaves (departed (take q departure)) none
+-- the departures of q trains: none where the last of them never leaves
+abbrev pub departed-in : (q : ℕ) (departure : List ℕ) → Departed
+departed-in q departure = cond (ltb (nth departure q) never) (departed (take q departure)) none
 
 abbrev pub timed-in : (q : ℕ) → Times → Timed
 timed-in q r = cond (r .runs) (timed (take q (r .departure)) (take q (r .arrival))) stopped
+
+-- the first m windows, which end then, are over at instant t
+abbrev pub WindowsOver : (to : List ℕ) (t m : ℕ) → Type 0
+WindowsOver to t m = (k : ℕ) → k < m → at to k < t
+
+-- trains 1 to i have left, and those behind them have not
+abbrev pub HaveLeft : (i : ℕ) (departure : List ℕ) → Type 0
+HaveLeft i l = (length l ≡ train-counts .most) × UpTo last-instant i l × ((k : ℕ) → i ≤ k → k < train-counts .most → at l k ≡ never)

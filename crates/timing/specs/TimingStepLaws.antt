@@ -1,31 +1,32 @@
 -- Laws by which code is shown to compute step 2, a branch or a turn at a time. Assumes nothing.
 use mathlib.Core.Path.{_≡_, refl, sym, ap, _∙_, subst}
 use mathlib.Core.Logic.{_⊎_, inl, inr}
-use mathlib.Core.Bool.{Bool, true, false, cond}
+use mathlib.Core.Bool.{Bool, true, false, cond, _&&_}
 use mathlib.Core.List.{List, [], _∷_, _++_}
 use Prim.Native.Nat.{ℕ, zero, suc, _+_, _-_, _≤_, _<_, max}
 use native.Mathlib.Numerals.{add-one}
 use native.Mathlib.Omega.{arith}
-use lib.Dec.{leb}
-use lib.ListN.{length, set, take, replicate, length-set}
+use lib.Dec.{T, leb, ltb}
+use lib.ListN.{length, set, take, replicate, length-set, getD-replicate}
 use lib.Seq.{take-suc, take-suc-set, getD-take, getD-set-same, getD-set-other, ext-getD}
-use borrow.Author.Tests.{le-leb, lt-leb, eq-eqb, ne-eqb}
+use borrow.Author.Tests.{lt-ltb, le-ltb, eq-eqb, ne-eqb}
 use Rattle.numbers.specs.Counting.{at, nth, table, row, each}
-use Rattle.numbers.specs.DecidesLaws.{decided, decides-eq}
+use Rattle.numbers.specs.DecidesLaws.{Decides, decided, decides-eq, decides-le, decides-lt, decides-and}
 use Rattle.numbers.specs.CountingLaws.{every-same-below, table-length, table-at}
+use Rattle.columns.specs.Columns.{UpTo}
 use Rattle.columns.specs.ColumnLaws.{nth-at}
 use Rattle.model.specs.Sheet.{Windows, Paths, windows, timetable}
 use Rattle.model.specs.Arrival.{arrivalBehind}
 use Rattle.model.specs.ArrivalLaws.{arrival-first, arrival-next}
-use Rattle.model.specs.Limits.{train-counts}
+use Rattle.model.specs.Limits.{last-instant, train-counts}
 use Rattle.model.specs.Memory.{pathsBy, sheetOf}
 use Rattle.model.specs.declared.Form.{Form}
 use Rattle.model.specs.declared.Sheet as memory
 use Rattle.rounds.specs.Rounds.{times}
 use Rattle.rounds.specs.TimingLaws.{FirstWindow, all-over, first-is, first-window-is}
-use Rattle.rounds.specs.Timing.{ready, or-window, first-window, earliest, none, departed, leave, next-departure, departures}
+use Rattle.rounds.specs.Timing.{ready, first-window, earliest, none, departed, leave, next-departure, departures}
 use Rattle.rounds.specs.Timing.{arrive, on-timetable, stopped, timed, timing}
-use Rattle.timing.specs.Timed.{departed-in}
+use Rattle.timing.specs.Timed.{never, departed-in, WindowsOver, HaveLeft}
 
 -- ---- the releases on the trains
 
@@ -73,51 +74,46 @@ module _ (release : ℕ → ℕ) (train : List ℕ) where
 -- ---- windows
 
 module _ (to : List ℕ) (t : ℕ) where
-  pub window-none : first-window (nth to) t 0 ≡ 0
-  unfolding first-window
-  window-none = refl
+  pub over-more : (m : ℕ) → WindowsOver to t m → at to m < t → WindowsOver to t (m + 1)
+  over-more m h e k l = go (decided (decides-eq k m))
+    where
+      go : (k ≡ m) ⊎ (¬ (k ≡ m)) → at to k < t
+      go (inl u) = rw u e
+      go (inr u) = h k (omega arith)
 
-  pub window-over : (m : ℕ) → first-window (nth to) t m ≡ 0 → at to m < t → first-window (nth to) t (m + 1) ≡ 0
-  unfolding first-window or-window
-  window-over m e l = rw (add-one, e, nth-at to m, lt-leb t (at to m) l)
+  pub no-window : (v : ℕ) → WindowsOver to t v → 0 ≡ first-window (nth to) t v
+  no-window v h = go (first-window (nth to) t v) (first-window-is (nth to) t v)
+    where
+      go : (r : ℕ) → FirstWindow (nth to) t v r → 0 ≡ r
+      go r (all-over f) = refl
+      go r (first-is k few not-over before) = absurd (omega (arith, h k (omega arith), nth-at to k))
 
   -- the first one that is not over is the first of all
-  pub window-first : (v m : ℕ) → m < v → first-window (nth to) t m ≡ 0 → t ≤ at to m → m + 1 ≡ first-window (nth to) t v
-  unfolding first-window or-window
-  window-first zero m l e h = absurd (omega arith)
-  window-first (suc v) m l e h = go (decided (decides-eq m v)) (λ k. window-first v m k e h)
+  pub window-first : (v m : ℕ) → m < v → WindowsOver to t m → t ≤ at to m → suc m ≡ first-window (nth to) t v
+  window-first v m l h e = go (first-window (nth to) t v) (first-window-is (nth to) t v)
     where
-      go : (m ≡ v) ⊎ (¬ (m ≡ v)) → (m < v → m + 1 ≡ first-window (nth to) t v) → m + 1 ≡ or-window (nth to) t (suc v) (first-window (nth to) t v)
-      go (inl s) ih = rw (add-one, sym s, e, nth-at to m, le-leb t (at to m) h)
-      go (inr s) ih = rw (← (ih (omega arith)), add-one)
-
--- a window that was found
-pub record OpenAt (to : ℕ → ℕ) (t v m : ℕ) : Type 0 where
-  pub numbered : 1 ≤ m
-  pub counted : m ≤ v
-  pub not-over : t ≤ to m
-
-pub open-window : (to : ℕ → ℕ) (t v m : ℕ) → m ≡ first-window to t v → ¬ (m ≡ 0) → OpenAt to t v m
-open-window to t v m e h = go m h (subst (FirstWindow to t v) (sym e) (first-window-is to t v))
-  where
-    go : (m : ℕ) → ¬ (m ≡ 0) → FirstWindow to t v m → OpenAt to t v m
-    go m h (all-over f) = absurd (h refl)
-    go m h (first-is k few over before) = record { numbered = omega arith; counted = few; not-over = over }
+      go : (r : ℕ) → FirstWindow (nth to) t v r → suc m ≡ r
+      go r (all-over f) = absurd (omega (arith, f (suc m) (omega arith) (omega arith), nth-at to m))
+      go r (first-is k few not-over before) = same (decided (decides-le m k)) (decided (decides-le k m))
+        where
+          same : (m ≤ k) ⊎ (¬ (m ≤ k)) → (k ≤ m) ⊎ (¬ (k ≤ m)) → suc m ≡ suc k
+          same (inl u) (inl w) = omega arith
+          same (inr u) w = absurd (omega (arith, h k (omega arith), nth-at to k))
+          same (inl u) (inr w) = absurd (omega (arith, before (suc m) (omega arith) (omega arith), nth-at to m))
 
 -- ---- the instant to await
 
-module _ (g : ℕ) (l : List ℕ) (i r : ℕ) where
-  pub earliest-first : i ≡ 0 → r ≡ earliest g (take i l) i r
-  unfolding earliest
-  earliest-first e = rw e
+pub earliest-first : (g : ℕ) (l : List ℕ) (r : ℕ) → max 0 r ≡ earliest g (take 0 l) 0 r
+unfolding earliest
+earliest-first g l r = omega arith
 
-  pub earliest-behind : ¬ (i ≡ 0) → max (nth l i + g) r ≡ earliest g (take i l) i r
-  unfolding earliest
-  earliest-behind e = go i e
-    where
-      go : (i : ℕ) → ¬ (i ≡ 0) → max (nth l i + g) r ≡ earliest g (take i l) i r
-      go zero e = absurd (e refl)
-      go (suc i) e = rw (getD-take (suc i) l (suc i - 1) 0 (omega arith))
+-- behind train i + 1, which leaves at instant v
+pub earliest-behind : (g : ℕ) (l : List ℕ) (i v r : ℕ) → i < length l → max (v + g) r ≡ earliest g (take (i + 1) (set l i v)) (i + 1) r
+unfolding earliest
+earliest-behind g l i v r h =
+    let u : suc i - 1 ≡ i = omega arith in
+    let e : at (take (suc i) (set l i v)) (suc i - 1) ≡ v = rw u (getD-take (suc i) (set l i v) i 0 (omega arith) ∙ getD-set-same l i v 0 h) in
+    rw (add-one, e)
 
 -- ---- departures
 
@@ -156,6 +152,47 @@ module _ (w : Windows) (released : ℕ → ℕ) where
         go zero e = absurd (e refl)
         go (suc m) e = refl
 
+pub left-none : HaveLeft 0 (replicate 32 never)
+left-none = (refl, λ k l. absurd (omega arith), λ k l m. getD-replicate {A = ℕ} 32 k never 0 m)
+
+pub left-more : (l : List ℕ) (i v : ℕ) → i < 32 → v ≤ last-instant → HaveLeft i l → HaveLeft (i + 1) (set l i v)
+left-more l i v few h (long, early, rest) =
+    (length-set l i v ∙ long, λ k m. go k m (decided (decides-eq k i)), λ k m n. getD-set-other l i k v 0 (λ e. omega arith) ∙ rest k (omega arith) n)
+  where
+    go : (k : ℕ) → k < i + 1 → (k ≡ i) ⊎ (¬ (k ≡ i)) → at (set l i v) k ≤ last-instant
+    go k m (inl e) = rw (e, getD-set-same l i v 0 (omega (arith, long))) h
+    go k m (inr e) = rw (getD-set-other l i k v 0 e) (early k (omega arith))
+
+pub left-bound : (l : List ℕ) (i : ℕ) → HaveLeft i l → UpTo never 32 l
+left-bound l i (long, early, rest) k m = go (decided (decides-le i k))
+  where
+    go : (i ≤ k) ⊎ (¬ (i ≤ k)) → at l k ≤ never
+    go (inl u) = omega (arith, rest k u m)
+    go (inr u) = omega (arith, early k (omega arith))
+
+-- whether a train and a window are still to come: i of q trains have left, and m of v windows are over
+module _ (i q m v : ℕ) where
+  to-come : Decides ((i < q) × (m < v)) (ltb i q && ltb m v)
+  to-come = decides-and (decides-lt i q) (decides-lt m v)
+
+  pub both-to-come : (ltb i q && ltb m v) ≡ true → (i < q) × (m < v)
+  both-to-come e = to-come .sound (subst T (sym e) tt)
+
+  pub one-at-end : (ltb i q && ltb m v) ≡ false → i ≤ q → m ≤ v → (i ≡ q) ⊎ ((i < q) × (m ≡ v))
+  one-at-end e a b = go (decided (decides-lt i q)) (decided (decides-lt m v))
+    where
+      go : (i < q) ⊎ (¬ (i < q)) → (m < v) ⊎ (¬ (m < v)) → (i ≡ q) ⊎ ((i < q) × (m ≡ v))
+      go (inr h) k = inl (omega arith)
+      go (inl h) (inr k) = inr (h, omega arith)
+      go (inl h) (inl k) = absurd (subst T e (to-come .complete (h, k)))
+
+module _ (l : List ℕ) (q : ℕ) where
+  pub all-left : 1 ≤ q → HaveLeft q l → departed-in q l ≡ departed (take q l)
+  all-left some (long, early, rest) = rw (lt-ltb (nth l q) never (omega (arith, early (q - 1) (omega arith))))
+
+  pub some-never : (i : ℕ) → i < q → q ≤ 32 → HaveLeft i l → departed-in q l ≡ none
+  some-never i more few (long, early, rest) = rw (le-ltb (nth l q) never (omega (arith, rest (q - 1) (omega arith) (omega arith))))
+
 -- ---- arrivals
 
 -- a list is the row of its elements
@@ -170,10 +207,7 @@ unfolding table
 row-store f l i v e h u = take-suc-set l i v h ∙ rw (e, u)
 
 module _ (g : ℕ) (p : ℕ → ℕ) where
-  pub arrival-alone : (S : ℕ → ℕ) (i : ℕ) → i ≡ 0 → S (suc i) + p (suc i) ≡ arrivalBehind g p S (suc i)
-  arrival-alone S i e = rw e (sym (arrival-first g p S))
-
-  pub arrival-behind : (S : ℕ → ℕ) (i : ℕ) → ¬ (i ≡ 0) → max (S (suc i) + p (suc i)) (arrivalBehind g p S i + g) ≡ arrivalBehind g p S (suc i)
+  arrival-behind : (S : ℕ → ℕ) (i : ℕ) → ¬ (i ≡ 0) → max (S (suc i) + p (suc i)) (arrivalBehind g p S i + g) ≡ arrivalBehind g p S (suc i)
   arrival-behind S zero e = absurd (e refl)
   arrival-behind S (suc i) e = sym (arrival-next g p S i)
 
@@ -195,54 +229,38 @@ module _ (g : ℕ) (p : ℕ → ℕ) where
       go (suc k) h =
           rw (go k (omega arith), arrival-same (nth departure) (nth (take q departure)) (suc k) (λ m a b. sym (getD-take q departure (m - 1) 0 (omega arith))))
 
--- the arrivals of trains 1 to i, where l has those of the trains ahead of train i
-module _ (g : ℕ) (running departure l : List ℕ) where
+module _ (g : ℕ) (running departure : List ℕ) where
   abbrev arrives : ℕ → ℕ
   arrives = arrivalBehind g (nth running) (nth departure)
 
-  pub ahead-is : (j : ℕ) → take j l ≡ row arrives j → ¬ (j ≡ 0) → at l (j - 1) ≡ arrives j
-  ahead-is zero e h = absurd (h refl)
-  ahead-is (suc j) e h =
-      let u : suc j - 1 ≡ j = omega arith in
-      rw u (sym (getD-take (suc j) l j 0 (omega arith)) ∙ ap (λ (x : List ℕ). at x j) e ∙ table-at (λ m. arrives (suc m)) 0 (suc j) j (omega arith))
-
-  pub arrivals-none : (i : ℕ) → i ≡ 0 → take i l ≡ row arrives i
+  pub arrivals-first : (i own : ℕ) → i ≡ 1 → own ≡ nth departure i + nth running i → take i (replicate 32 own) ≡ row arrives i
   unfolding table
-  arrivals-none i e = rw e
+  arrivals-first i own e w = rw e (ap (λ (t : ℕ). t ∷ []) ((rw e at w) ∙ sym (arrival-first g (nth running) (nth departure))))
 
-  pub arrivals-more : (i v : ℕ) → ¬ (i ≡ 0) → i ≤ length l → take (i - 1) l ≡ row arrives (i - 1) → v ≡ arrives i → take i (set l (i - 1) v) ≡ row arrives i
-  arrivals-more zero v some few e w = absurd (some refl)
-  arrivals-more (suc j) v some few e w =
-      let u : suc j - 1 ≡ j = omega arith in rw u (row-store arrives l j v (rw u at e) few w)
+  -- the arrivals of trains 1 to i, where l has those of the trains ahead of train i
+  module _ (l : List ℕ) where
+    pub ahead-is : (j : ℕ) → take j l ≡ row arrives j → ¬ (j ≡ 0) → at l (j - 1) ≡ arrives j
+    ahead-is zero e h = absurd (h refl)
+    ahead-is (suc j) e h =
+        let u : suc j - 1 ≡ j = omega arith in
+        rw u (sym (getD-take (suc j) l j 0 (omega arith)) ∙ ap (λ (x : List ℕ). at x j) e ∙ table-at (λ m. arrives (suc m)) 0 (suc j) j (omega arith))
 
-  -- train j + 1 is the first one, or runs behind train j
-  arrives-next : (j own : ℕ) → own ≡ nth departure (suc j) + nth running (suc j) → take j l ≡ row arrives j
-      → earliest g (take j l) j own ≡ arrives (suc j)
-  unfolding earliest
-  arrives-next zero own e h = e ∙ arrival-alone g (nth running) (nth departure) 0 refl
-  arrives-next (suc j) own e h =
-      let u : suc j - 1 ≡ j = omega arith in
-      let ahead : at (take (suc j) l) (suc j - 1) ≡ arrives (suc j) =
-      getD-take (suc j) l (suc j - 1) 0 (omega arith) ∙ ahead-is (suc j) h (λ z. omega arith) in
-      rw (ahead, e) (swap (arrives (suc j) + g) _ ∙ arrival-behind g (nth running) (nth departure) (suc j) (λ z. omega arith))
-    where
-      swap : (a b : ℕ) → max a b ≡ max b a
-      swap a b = omega arith
+    pub arrivals-more : (i v : ℕ) → ¬ (i ≡ 0) → i ≤ length l → take (i - 1) l ≡ row arrives (i - 1) → v ≡ arrives i → take i (set l (i - 1) v) ≡ row arrives i
+    arrivals-more zero v some few e w = absurd (some refl)
+    arrivals-more (suc j) v some few e w =
+        let u : suc j - 1 ≡ j = omega arith in rw u (row-store arrives l j v (rw u at e) few w)
 
-  pub arrives-behind : (i own : ℕ) → ¬ (i ≡ 0) → own ≡ nth departure i + nth running i → take (i - 1) l ≡ row arrives (i - 1)
-      → earliest g (take (i - 1) l) (i - 1) own ≡ arrives i
-  arrives-behind zero own some e h = absurd (some refl)
-  arrives-behind (suc j) own some e h = let u : suc j - 1 ≡ j = omega arith in rw u (arrives-next j own e (rw u at h))
-
--- ---- every train
-
--- a release exceeds its train's departure, or not
-module _ (released departure : List ℕ) (i : ℕ) where
-  pub exceeds : at departure i < at released i → leb (nth released (suc i)) (nth departure (suc i)) ≡ false
-  exceeds h = rw (nth-at released i, nth-at departure i) (lt-leb (at released i) (at departure i) h)
-
-  pub in-time : at released i ≤ at departure i → leb (nth released (suc i)) (nth departure (suc i)) ≡ true
-  in-time h = rw (nth-at released i, nth-at departure i) (le-leb (at released i) (at departure i) h)
+    -- train i runs behind the one ahead
+    pub arrives-behind : (i own : ℕ) → 2 ≤ i → own ≡ nth departure i + nth running i → take (i - 1) l ≡ row arrives (i - 1)
+        → max (at l (i - 1 - 1) + g) own ≡ arrives i
+    arrives-behind zero own some e h = absurd (omega arith)
+    arrives-behind (suc j) own some e h =
+        let u : suc j - 1 ≡ j = omega arith in
+        let last : at l (suc j - 1 - 1) ≡ arrives j = rw u (ahead-is j (rw u at h) (λ z. omega arith)) in
+        rw (last, e) (swap (arrives j + g) _ ∙ arrival-behind g (nth running) (nth departure) j (λ z. omega arith))
+      where
+        swap : (a b : ℕ) → max a b ≡ max b a
+        swap a b = omega arith
 
 -- ---- the timing, whole: only what is released for the q trains counts
 
@@ -259,7 +277,7 @@ module _ (f g : ℕ → ℕ) where
       rw (every-same-below (λ m. leb (f (suc m)) (t .departure (suc m))) (λ m. leb (g (suc m)) (t .departure (suc m))) q (λ j l. rw (h j l)))
 
 pub windows-timed : (w : Windows) (released : ℕ → ℕ) (q : ℕ) (leaves : Bool) (departure arrival : List ℕ)
-    → departed-in q leaves departure ≡ departures w released q → take q arrival ≡ row (arrivalBehind (w .gap) (w .running) (nth departure)) q
+    → cond leaves (departed (take q departure)) none ≡ departures w released q → take q arrival ≡ row (arrivalBehind (w .gap) (w .running) (nth departure)) q
     → cond leaves (timed (take q departure) (take q arrival)) stopped ≡ timing (windows w) q released
 unfolding timing arrive
 windows-timed w released q true departure arrival e f = rw (← e) (ap (timed (take q departure)) (f ∙ row-arrivals (w .gap) (w .running) departure q))

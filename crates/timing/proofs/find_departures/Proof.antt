@@ -1,109 +1,156 @@
--- `timing::find_departures` meets its contract: the loop's invariant is that trains 1 to i have the departures found so far, none after the
--- last instant. Assumes nothing.
+-- `timing::find_departures` meets its contract: the loop's invariant is that trains 1 to i have left, and that the first m windows are over at the instant
+-- that the next train awaits. Assumes nothing.
 use borrow.Author.Needs.{needs}
-use mathlib.Core.Path.{_≡_, sym, _∙_}
-use Prim.Native.Nat.{suc, _≤_, _<_, _-_}
+use mathlib.Core.Path.{_≡_, refl, sym, _∙_}
+use mathlib.Core.Logic.{_⊎_, inl, inr}
+use Prim.Native.Nat.{ℕ, suc, _≤_, _<_, _+_, _-_, max}
 use native.Mathlib.Omega.{arith}
-use lib.ListN.{length, take, length-set}
-use Rattle.numbers.specs.Counting.{nth}
+use lib.ListN.{take, replicate}
+use Rattle.numbers.specs.Counting.{at, nth}
 use Rattle.model.specs.Memory.{windowsOf}
 use Rattle.model.specs.MemoryLaws.{few-windows, windows-in-range}
 use Rattle.model.specs.Admission.{WindowsInRange}
-use Rattle.rounds.specs.Timing.{earliest, departed, departures}
-use Rattle.columns.specs.ColumnLaws.{nth-at, up-to-set}
-use Rattle.timing.specs.Timed.{InTime}
-use Rattle.timing.specs.TimingStepLaws.{OpenAt, open-window, departures-first, departures-stop, departures-next}
+use Rattle.rounds.specs.Timing.{first-window, earliest, departed, departures}
+use Rattle.columns.specs.ColumnLaws.{nth-at}
+use Rattle.timing.specs.Timed.{never, departed-in, WindowsOver, HaveLeft}
+use Rattle.timing.specs.TimingStepLaws.{over-more, no-window, window-first, earliest-first, earliest-behind}
+use Rattle.timing.specs.TimingStepLaws.{departures-first, departures-stop, departures-next}
+use Rattle.timing.specs.TimingStepLaws.{left-none, left-more, left-bound, all-left, some-never, both-to-come, one-at-end}
 use Rattle.timing.proofs.find_departures.Statement.{statement}
 use Rattle.timing.proofs.find_departures.Tie as tie
 
 abbrev Inv-loop : tie.InvT-loop
-Inv-loop sheet departure₀ released from to i₀ departure i =
-    (i ≤ sheet .«train_count»)
-    × InTime departure
+Inv-loop sheet released from to departure₀ t₀ i₀ m₀ departure t i m =
+    ((i ≤ sheet .«train_count») × (m ≤ sheet .«window_count»))
+    × HaveLeft i departure
     × (departures (windowsOf sheet) (nth released) i ≡ departed (take i departure))
+    × (max t (at released i) ≡ earliest (sheet .gap) (take i departure) i (at released i))
+    × WindowsOver to (max t (at released i)) m
 
 abbrev μ-loop : tie.MeasureT-loop
-μ-loop sheet departure₀ released from to i₀ departure i = sheet .«train_count» - i
+μ-loop sheet released from to departure₀ t₀ i₀ m₀ departure t i m = sheet .«train_count» - i + (sheet .«window_count» - m)
 
--- the entry from the loop's head, and the head from where a window was looked for
+-- the entry from the loop's head, and the head from within its body
 abbrev entry : tie.At-loop Inv-loop μ-loop → tie.Start Inv-loop μ-loop
 entry l = l .before .before .before
 
-abbrev head : tie.After-window-at Inv-loop μ-loop → tie.At-loop Inv-loop μ-loop
-head c = c .before .before .before .before .before .before
+abbrev head : tie.Then1 Inv-loop μ-loop → tie.At-loop Inv-loop μ-loop
+head c = c .before .before .before
 
 in-range : (s : tie.Start Inv-loop μ-loop) → WindowsInRange (windowsOf (s .args .sheet)) (s .args .sheet .«train_count»)
 in-range s = windows-in-range (s .args .sheet) (s .pre .0) (s .pre .1)
 
-few : (s : tie.Start Inv-loop μ-loop) → s .args .sheet .«window_count» ≤ 64
-few s = few-windows (s .args .sheet) (s .pre .0) (s .pre .1)
-
 trains : (s : tie.Start Inv-loop μ-loop) → s .args .sheet .«train_count» ≤ 32
 trains s = s .pre .0 .few .trains
 
-awaited : (c : tie.After-window-at Inv-loop μ-loop)
-    → let l = head c in
+-- a train and a window are still to come
+more : (c : tie.Then1 Inv-loop μ-loop)
+    → (head c .loop .i < entry (head c) .args .sheet .«train_count») × (head c .loop .m < entry (head c) .args .sheet .«window_count»)
+more c = both-to-come (head c .loop .i) _ (head c .loop .m) _ (c .if1 .taken)
+
+train-place : (c : tie.Then1 Inv-loop μ-loop) → head c .loop .i < 32
+train-place c = omega (arith, more c .0, trains (entry (head c)))
+
+window-place : (c : tie.Then1 Inv-loop μ-loop) → head c .loop .m < 64
+window-place c = let s = entry (head c) in omega (arith, more c .1, few-windows (s .args .sheet) (s .pre .0) (s .pre .1))
+
+-- what the next train awaits
+awaited : (l : tie.At-loop Inv-loop μ-loop) (t : ℕ) → t ≡ max (l .loop .t) (at (entry l .args .t2) (l .loop .i))
+    → t ≡ earliest (entry l .args .sheet .gap) (take (l .loop .i) (l .loop .departure)) (l .loop .i) (nth (entry l .args .t2) (suc (l .loop .i)))
+awaited l t e = rw (nth-at (entry l .args .t2) (l .loop .i)) (e ∙ l .loop .inv .3)
+
+-- the window at hand is over
+loop-again : tie.Need-loop-again Inv-loop μ-loop
+loop-again c =
+    let d = c .before .before in
+    let l = head d in
     let a = entry l .args in
-    c .before .before .behind .result
-    ≡ earliest (a .sheet .gap) (take (l .loop .i) (l .loop .departure)) (l .loop .i) (nth (a .t2) (suc (l .loop .i)))
-awaited c = let l = head c in rw (nth-at (entry l .args .t2) (l .loop .i)) (c .before .before .behind .ensures)
+    let inv = l .loop .inv in
+    let e = c .before .later .ensures in
+    let same : max (c .before .later .result) (at (a .t2) (l .loop .i)) ≡ max (l .loop .t) (at (a .t2) (l .loop .i)) = omega (arith, e) in (
+      (inv .0 .0, omega (arith, more d .1)),
+      inv .1,
+      inv .2,
+      rw same (inv .3),
+      rw same (over-more (a .sheet .«window_to») _ (l .loop .m) (inv .4) (omega (arith, e, c .if2 .taken))),
+    )
+
+-- the train left at this instant
+left : (c : tie.After-later2 Inv-loop μ-loop) → c .later2 .result ≤ 100000
+left c =
+    let d = c .before .before .before in
+    let s = entry (head d) in
+    let m = head d .loop .m in
+    let w = s .args .sheet in
+    let range = in-range s .windows (suc m) (omega arith) (omega (arith, more d .1)) in
+    omega (arith, c .later2 .ensures, c .before .if2 .left, range .from .1, range .to .1, nth-at (w .«window_from») m, nth-at (w .«window_to») m)
+
+loop-again-2 : tie.Need-loop-again-2 Inv-loop μ-loop
+loop-again-2 c =
+    let at-window = c .before .before .before in
+    let d = at-window .before in
+    let l = head d in
+    let s = entry l in
+    let w = s .args .sheet in
+    let inv = l .loop .inv in
+    let i = l .loop .i in
+    let m = l .loop .m in
+    let t = at-window .later in
+    let v = c .before .later2 .result in
+    let few = train-place d in
+    let e : v ≡ max (t .result) (nth (w .«window_from») (suc m)) = omega (arith, c .before .later2 .ensures, nth-at (w .«window_from») m) in
+    let window : suc m ≡ first-window (nth (w .«window_to»)) (t .result) (w .«window_count») =
+    window-first (w .«window_to») (t .result) (w .«window_count») m (more d .1) (λ k h. omega (arith, t .ensures, inv .4 k h))
+    (omega (arith, c .before .before .if2 .left)) in
+    let next = departures-next (windowsOf w) (nth (s .args .t2)) (l .loop .departure) i (t .result) (suc m) (inv .2) (awaited l (t .result) (t .ensures)) window
+    (λ z. omega arith) (omega (arith, inv .1 .0, few)) in (
+      (omega (arith, more d .0), inv .0 .1),
+      left-more (l .loop .departure) i v few (left (c .before)) (inv .1),
+      rw e next,
+      earliest-behind (w .gap) (l .loop .departure) i v _ (omega (arith, inv .1 .0, few)),
+      λ k h. omega (arith, inv .4 k h, t .ensures, c .before .later2 .ensures),
+    )
 
 returns : tie.Need-returns Inv-loop μ-loop
 returns c =
-    let w = c .before in
-    let l = head w in
-    let a = entry l .args in
-    let s = a .sheet in (
-      departures-stop (windowsOf s) (nth (a .t2)) (l .loop .departure) (l .loop .i) (w .before .before .behind .result) (w .window-at .result)
-          (l .loop .inv .2) (awaited w) (w .window-at .ensures) (c .if2 .taken) (s .«train_count») (omega arith),
-      l .loop .inv .1,
-    )
-
-opened : (c : tie.Else2 Inv-loop μ-loop)
-    → let s = entry (head (c .before)) .args .sheet in
-    OpenAt (nth (s .«window_to»)) (c .before .before .before .behind .result) (s .«window_count») (c .before .window-at .result)
-opened c = open-window _ _ _ _ (c .before .window-at .ensures) (c .if2 .left)
-
-loop-again : tie.Need-loop-again Inv-loop μ-loop
-loop-again c =
-    let e = c .before in
-    let w = e .before in
-    let l = head w in
-    let s = entry l in
-    let m = s .args .sheet in
-    let i = l .loop .i in
-    let v = c .later .result in
-    let window = opened e in
-    let range = in-range s .windows (w .window-at .result) (window .numbered) (window .counted) in
-    let left : v ≤ 100000 = omega (arith, c .later .ensures, window .not-over, range .from .1, range .to .1) in
-    let room : i < length (l .loop .departure) = omega (arith, trains s, l .loop .inv .1 .0) in
-    let next = departures-next (windowsOf m) (nth (s .args .t2)) (l .loop .departure) i (w .before .before .behind .result) (w .window-at .result)
-    (l .loop .inv .2) (awaited w) (w .window-at .ensures) (e .if2 .left) room in (
-      omega arith,
-      (length-set (l .loop .departure) i v ∙ l .loop .inv .1 .0, up-to-set 100000 32 (l .loop .departure) i v room (l .loop .inv .1 .1) left),
-      rw (c .later .ensures) next,
-    )
-
-returns-2 : tie.Need-returns-2 Inv-loop μ-loop
-returns-2 c =
-    let l = c .before .before in
-    let e : l .loop .i ≡ entry l .args .sheet .«train_count» = omega arith in (sym (rw e at (l .loop .inv .2)), l .loop .inv .1)
-
-behind-requires : tie.Need-behind-requires Inv-loop μ-loop
-behind-requires c κs =
     let l = c .before .before .before in
-    let s = entry l in
-    let few : l .loop .i ≤ 32 = omega (arith, trains s) in
-    (few, in-range s .gap .1, λ h. omega (arith, l .loop .inv .1 .1 (l .loop .i - 1) (omega (arith, h, few))))
+    let inv = l .loop .inv in
+    let q = entry l .args .sheet .«train_count» in
+    (ended l (one-at-end (l .loop .i) q (l .loop .m) _ (c .if1 .left) (inv .0 .0) (inv .0 .1)), left-bound (l .loop .departure) (l .loop .i) (inv .1))
+  where
+    ended : (l : tie.At-loop Inv-loop μ-loop) → let w = entry l .args .sheet in
+        let q = w .«train_count» in
+        (l .loop .i ≡ q) ⊎ ((l .loop .i < q) × (l .loop .m ≡ w .«window_count»))
+        → departed-in q (l .loop .departure) ≡ departures (windowsOf w) (nth (entry l .args .t2)) q
+    ended l (inl e) =
+        let inv = l .loop .inv in
+        all-left (l .loop .departure) _ (entry l .pre .0 .complete .trains) (rw e at (inv .1)) ∙ sym (rw e at (inv .2))
+    ended l (inr (h, e)) =
+        let a = entry l .args in
+        let w = a .sheet in
+        let inv = l .loop .inv in
+        let t = max (l .loop .t) (at (a .t2) (l .loop .i)) in
+        some-never (l .loop .departure) _ (l .loop .i) h (trains (entry l)) (inv .1)
+        ∙ departures-stop (windowsOf w) (nth (a .t2)) (l .loop .departure) (l .loop .i) t 0 (inv .2) (awaited l t refl)
+        (no-window (w .«window_to») t (w .«window_count») (rw e at (inv .4))) refl (w .«train_count») h
 
 pub find-departures-spec : {M : Type 1} → statement M
 find-departures-spec =
     tie.close
     (tie.spec
     Inv-loop μ-loop
-    (λ c. let s = c .before .before in (omega arith, s .pre .2, departures-first _ _ (s .args .departure .now)))
-    (λ c. omega (arith, trains (entry (c .before .before .before)))) (λ c. omega (arith, trains (entry (c .before .before .before)))) behind-requires
-    (λ c κs. few (entry (c .before .before .before .before .before))) returns (λ c. omega (arith, c .if2 .left))
-    (λ c. omega (arith, opened c .counted, few (entry (head (c .before))))) (λ c. omega (arith, opened c .counted, few (entry (head (c .before)))))
-    (λ c κs. search needs) (λ c. omega (arith, trains (entry (head (c .before .before))))) (λ c. omega (arith, trains (entry (head (c .before .before)))))
-    (λ c. search needs) (λ c. search needs) loop-again returns-2)
+    (λ c. (
+      (omega arith, omega arith),
+      left-none,
+      departures-first _ _ (replicate 32 never),
+      earliest-first _ (replicate 32 never) _,
+      λ k l. absurd (omega arith),
+    ))
+    (λ c. omega (arith, train-place c)) (λ c. train-place c) (λ c κs. search needs)
+    (λ c. omega (arith, window-place (c .before))) (λ c. window-place (c .before)) (λ c. omega (arith, window-place (c .before .before)))
+    (λ c. omega (arith, more (c .before .before) .1)) loop-again
+    (λ c. omega (arith, window-place (c .before .before))) (λ c. window-place (c .before .before)) (λ c κs. search needs)
+    (λ c. omega (arith, train-place (c .before .before .before))) (λ c. train-place (c .before .before .before))
+    (λ c. omega (arith, left (c .before), in-range (entry (head (c .before .before .before .before))) .gap .1))
+    (λ c. omega (arith, train-place (c .before .before .before .before))) (λ c. omega (arith, more (c .before .before .before .before) .0))
+    loop-again-2 returns)
