@@ -8,13 +8,13 @@ use native.Mathlib.Numerals.{add-one}
 use native.Mathlib.Omega.{arith}
 use lib.Dec.{eqb}
 use lib.IntN.{ℤ, pos}
-use lib.ListN.{length, set, take, drop, length-append, length-drop}
+use lib.ListN.{length, set, take, drop, length-append, length-drop, length-take, length-set}
 use lib.Seq.{getD-take}
 use borrow.Author.Tests.{eq-eqb, ne-eqb}
 use Rattle.numbers.specs.Counting.{at}
 use Rattle.numbers.specs.DecidesLaws.{decided, decides-eq}
 use Rattle.numbers.specs.Over.{over}
-use Rattle.numbers.specs.OverLaws.{store-two-behind, store-two-over}
+use Rattle.numbers.specs.OverLaws.{store-two-behind, store-two-over, copy-next}
 use Rattle.model.specs.Lateness.{Pair}
 use Rattle.rounds.specs.Recording.{Entry, record-entry, listed, recorded-arrival}
 use Rattle.rounds.specs.RecordingLaws.{FromEnd, nothing, behind, from-end, record-same, record-other}
@@ -25,19 +25,15 @@ use Rattle.recording.specs.Recorded.{place, held-list, Lists, ListsMore}
 
 -- ---- the place of the next pair
 
-pub place-first : (k last arrival : ℕ) → k ≡ 0 → 0 ≡ place k last arrival
+pub place-same : (k last arrival : ℕ) → 0 < k → last ≡ arrival → k - 1 ≡ place k last arrival
 unfolding place
-place-first k last arrival e = rw e
-
-pub place-same : (k last arrival : ℕ) → ¬ (k ≡ 0) → last ≡ arrival → k - 1 ≡ place k last arrival
-unfolding place
-place-same zero last arrival h e = absurd (h refl)
+place-same zero last arrival h e = absurd (omega arith)
 place-same (suc k) last arrival h e = simp (eq-eqb last arrival e) (omega arith)
 
-pub place-behind : (k last arrival : ℕ) → ¬ (k ≡ 0) → ¬ (last ≡ arrival) → k ≡ place k last arrival
+pub place-behind : (k last arrival : ℕ) → ¬ ((0 < k) × (last ≡ arrival)) → k ≡ place k last arrival
 unfolding place
-place-behind zero last arrival h e = absurd (h refl)
-place-behind (suc k) last arrival h e = simp (ne-eqb last arrival e)
+place-behind zero last arrival h = refl
+place-behind (suc k) last arrival h = simp (ne-eqb last arrival (λ e. h (omega arith, e)))
 
 pub place-most : (k last arrival : ℕ) → place k last arrival ≤ k
 unfolding place
@@ -124,15 +120,15 @@ lists-more count last arrival worst area room k at-place area′ is-written foun
     go : (entries : List Entry) → FromEnd entries → count ≡ length entries → last ≡ recorded-arrival entries → area ≡ over (pair-numbers (listed entries)) found
         → Lists found (held-list (k + 1) arrival area′) (record-entry entries e)
     go entries nothing c t h =
-        let z : k ≡ length entries = at-place ∙ sym (place-first count last arrival c) in
+        let z : k ≡ length entries = at-place ∙ sym (place-behind count last arrival (λ h. omega (arith, c, h .0))) ∙ c in
         after-recording [] (placed z h (after p found e is [] (omega (arith, c, room-found found [] count c (rw h at room)))))
     go entries (behind before e₀) c t h = split (decided (decides-eq last arrival))
       where
         all : List Entry
         all = before ++ (e₀ ∷ [])
 
-        some : ¬ (count ≡ 0)
-        some z = omega (arith, c, z, length-append before (e₀ ∷ []))
+        some : 0 < count
+        some = omega (arith, c, length-append before (e₀ ∷ []))
 
         last-arrived : e₀ .pair .last ≡ last
         last-arrived = sym (t ∙ ap (λ (x : Entry). x .pair .last) (last-behind before e₀))
@@ -146,19 +142,55 @@ lists-more count last arrival worst area room k at-place area′ is-written foun
             let same : record-entry all e ≡ before ++ (e ∷ []) = record-same before e₀ e (last-arrived ∙ u ∙ sym arrived) in
             after-recording all (placed here h (rw same (again p found e is before e₀)))
         split (inr u) =
-            let here : k ≡ length all = at-place ∙ sym (place-behind count last arrival some u) ∙ c in
+            let here : k ≡ length all = at-place ∙ sym (place-behind count last arrival (λ h. u (h .1))) ∙ c in
             let other : record-entry all e ≡ all ++ (e ∷ []) = record-other before e₀ e (λ v. u (sym last-arrived ∙ v ∙ arrived)) in
             let space : 2 * length all + 1 < length found = omega (arith, c, room-found found all count c (rw h at room)) in
             after-recording all (placed here h (rw other (after p found e is all space)))
 
--- ---- the trains' times: one turn of the loop that writes them
+-- ---- loops that write from the end: what is still to be written, over what is there, is what it was before the turn
 
-pub times-next : (departure arrival found : List ℕ) (q i : ℕ) → i < q → 2 * i + 1 < length found
-    → set (set (over (time-numbers (take q departure) (take q arrival) i) found) (2 * i) (at departure i)) (2 * i + 1) (at arrival i)
-    ≡ over (time-numbers (take q departure) (take q arrival) (i + 1)) found
-unfolding time-numbers
-times-next departure arrival found q i few h =
-    let b : suc i - 1 ≡ i = omega arith in
-    let behind = time-numbers-length (take q departure) (take q arrival) i in
-    rw (add-one i, b, getD-take q departure i 0 few, getD-take q arrival i 0 few)
-    (store-two-behind (time-numbers (take q departure) (take q arrival) i) found (2 * i) (at departure i) (at arrival i) behind h)
+set-over : {A : Type 0} (written found : List A) (k : ℕ) (v : A) → length written ≤ k → k < length found
+    → over written (set found k v) ≡ set (over written found) k v
+set-over [] found k v h l = refl
+set-over (x ∷ f) [] k v h l = absurd (omega arith)
+set-over (x ∷ f) (y ∷ ys) zero v h l = absurd (omega arith)
+set-over (x ∷ f) (y ∷ ys) (suc k) v h l = ap (λ r. x ∷ r) (set-over f ys k v (omega arith) (omega arith))
+
+-- an element of a list
+pub copy-last : (l found : List ℕ) (n : ℕ) → 0 < n → n ≤ length l → n ≤ length found
+    → over (take (n - 1) l) (set found (n - 1) (at l (n - 1))) ≡ over (take n l) found
+copy-last l found n some few h =
+    let j = n - 1 in
+    let e : j + 1 ≡ n = omega arith in
+    let short : length (take j l) ≤ j = simp length-take (omega arith) in
+    set-over (take j l) found j (at l j) short (omega arith)
+    ∙ copy-next l found j (omega arith) (omega arith)
+    ∙ ap (λ (m : ℕ). over (take m l) found) e
+
+-- the times of a train
+module _ (departure arrival found : List ℕ) (all : ℕ) where
+  -- of the first i trains
+  abbrev times : ℕ → List ℕ
+  times i = time-numbers (take all departure) (take all arrival) i
+
+  times-next : (i : ℕ) → i < all → 2 * i + 1 < length found
+      → set (set (over (times i) found) (2 * i) (at departure i)) (2 * i + 1) (at arrival i) ≡ over (times (i + 1)) found
+  unfolding time-numbers
+  times-next i few h =
+      let b : suc i - 1 ≡ i = omega arith in
+      let behind = time-numbers-length (take all departure) (take all arrival) i in
+      rw (add-one i, b, getD-take all departure i 0 few, getD-take all arrival i 0 few)
+      (store-two-behind (times i) found (2 * i) (at departure i) (at arrival i) behind h)
+
+  pub times-last : (q : ℕ) → 0 < q → q ≤ all → 2 * q ≤ length found
+      → let i = q - 1 in over (times i) (set (set found (2 * i) (at departure i)) (2 * i + 1) (at arrival i)) ≡ over (times q) found
+  times-last q some few h =
+      let i = q - 1 in
+      let e : i + 1 ≡ q = omega arith in
+      let short = time-numbers-length (take all departure) (take all arrival) i in
+      let v = at departure i in
+      let w = at arrival i in
+      set-over (times i) (set found (2 * i) v) (2 * i + 1) w (omega (arith, short)) (simp length-set (omega arith))
+      ∙ ap (λ (l : List ℕ). set l (2 * i + 1) w) (set-over (times i) found (2 * i) v (omega (arith, short)) (omega arith))
+      ∙ times-next i (omega arith) (omega arith)
+      ∙ ap (λ (m : ℕ). over (times m) found) e
