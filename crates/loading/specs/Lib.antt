@@ -1,4 +1,5 @@
 pub mod Ranks
 pub mod RankLaws
 pub mod Open
+pub mod ToLoad
 pub mod OnePassLaws

@@ -12,31 +12,13 @@ use lib.Seq.{getD-take, getD-set-same, getD-set-other, ext-getD}
 use Rattle.numbers.specs.Counting.{at, nth, count}
 use Rattle.numbers.specs.DecidesLaws.{Decides, decides-le, decides-lt, decides-eq, decides-and, decided}
 use Rattle.numbers.specs.CountingLaws.{count-cong, count-lt, count-none, count-disj, count-union, count-point}
-use Rattle.model.specs.Sheet.{Sheet}
-use Rattle.rounds.specs.Rounds.{loading}
 use Rattle.rounds.specs.LoadingLaws.{on, decides-on}
-use Rattle.rounds.specs.LoadLaws.{load-greedy}
+use Rattle.rounds.specs.LoadLaws.{load-greedy, load-length}
 use Rattle.rounds.specs.GreedyLaws.{Greedy}
 use Rattle.loading.specs.Ranks.{rank-among}
-use Rattle.loading.specs.RankLaws.{load-alike, rank-alike}
+use Rattle.loading.specs.RankLaws.{load-alike, rank-alike, rank-most, same-rank, ranked}
 use Rattle.loading.specs.Open.{SomeOpen, LastOpen}
-
--- where some train is open, the last open one is a train
-pub opened : (left : ℕ → ℕ) (latest r : ℕ) → SomeOpen left latest → LastOpen left latest r → 1 ≤ r
-opened left latest r some o = go (decided (decides-lt r (some .train)))
-  where
-    go : (r < some .train) ⊎ (¬ (r < some .train)) → 1 ≤ r
-    go (inl u) = absurd (omega (arith, o .full (some .train) u (some .up-to), some .place))
-    go (inr u) = omega (arith, some .first)
-
--- the loading is greedy by rank
-pub greedy-by-rank : (s : Sheet) (latest : List ℕ) → ((j : ℕ) → j < s .orders → at latest j ≤ s .trains)
-    → Greedy (s .orders) (s .capacity) (rank-among (s .release) (s .orders)) latest (loading s latest)
-greedy-by-rank s latest upto =
-    let rank = rank-among (s .release) (s .orders) in
-    subst (Greedy (s .orders) (s .capacity) rank latest)
-    (load-alike (s .release) rank (s .orders) (rank-alike (s .release) (s .orders)) latest (s .capacity) (s .trains))
-    (load-greedy (s .orders) (s .trains) rank (s .capacity) latest upto)
+use Rattle.loading.specs.ToLoad.{loading-of, ToLoad}
 
 module _ (n : ℕ) (rank capacity : ℕ → ℕ) (latest loaded : List ℕ) where
   -- order j rides train i and has rank k or more
@@ -104,12 +86,12 @@ module _ (n : ℕ) (rank capacity : ℕ → ℕ) (latest loaded : List ℕ) wher
     pub some-open : SomeOpen (nth left) (at train j)
     some-open = record { train = at loaded j; first = some; up-to = omega (arith, may, greedy .keeps j l); place = place-left }
 
-    pub is-train : (r : ℕ) → LastOpen (nth left) (at train j) r → 1 ≤ r → r ≡ at loaded j
-    is-train r o first = go (decided (decides-lt r (at loaded j))) (decided (decides-lt (at loaded j) r))
+    pub is-train : (r : ℕ) → LastOpen (nth left) (at train j) r → r ≡ at loaded j
+    is-train r o = go (decided (decides-lt r (at loaded j))) (decided (decides-lt (at loaded j) r))
       where
         go : (r < at loaded j) ⊎ (¬ (r < at loaded j)) → (at loaded j < r) ⊎ (¬ (at loaded j < r)) → r ≡ at loaded j
         go (inl u) v = absurd (omega (arith, o .full (at loaded j) u (omega (arith, may, greedy .keeps j l)), place-left))
-        go (inr u) (inl v) = absurd (omega (arith, o .place first, no-place r v (omega (arith, may, o .up-to))))
+        go (inr u) (inl v) = absurd (omega (arith, o .place, no-place r v (omega (arith, may, o .up-to))))
         go (inr u) (inr v) = omega arith
 
     -- one more on its train, and none on the others
@@ -162,3 +144,64 @@ module _ (n : ℕ) (rank capacity : ℕ → ℕ) (latest loaded : List ℕ) wher
         left-over i k (inr u) =
             getD-set-other left (r - 1) (i - 1) (nth left r - 1) 0 (λ v. u (omega arith)) ∙ part .places i k
             ∙ ap (λ (m : ℕ). capacity i - m) (sym (others-same i (λ w. u (w ∙ sym e))))
+
+-- ---- the code's columns
+
+module _ (n q : ℕ) (release : ℕ → ℕ) (capacity order latest : List ℕ) where
+  -- loaded down to rank k
+  abbrev pub LoadedTo : (k : ℕ) (train left : List ℕ) → Type 0
+  LoadedTo = Part n (rank-among release n) (nth capacity) (take n latest) (loading-of n q release capacity latest)
+
+  module _ (to-load : ToLoad n q release capacity order latest) where
+    -- the loading is greedy by rank
+    greedy-by-rank : Greedy n (nth capacity) (rank-among release n) (take n latest) (loading-of n q release capacity latest)
+    greedy-by-rank =
+        let rank = rank-among release n in
+        subst (Greedy n (nth capacity) rank (take n latest))
+        (load-alike release rank n (rank-alike release n) (take n latest) (nth capacity) q)
+        (load-greedy n q rank (nth capacity) (take n latest) (λ j l. omega (arith, getD-take n latest j 0 l, to-load .up-to j l)))
+
+    pub none-loaded : LoadedTo n latest capacity
+    none-loaded =
+        part-start n (rank-among release n) (nth capacity) (take n latest) _ n latest capacity refl (rank-most release n)
+        (λ j l. sym (getD-take n latest j 0 l)) (λ i l. refl)
+
+    pub all-loaded : (k : ℕ) (train left : List ℕ) → k ≡ 0 → n ≤ length train → LoadedTo k train left
+        → take n train ≡ loading-of n q release capacity latest
+    all-loaded k train left none long part =
+        part-all n (rank-among release n) (nth capacity) (take n latest) _ k train left none long
+        (load-length n q release (nth capacity) (take n latest)) part
+
+    -- the next order, where k are not loaded
+    module _ (k : ℕ) (more : 0 < k) (few : k ≤ n) (train left : List ℕ) (so-far : LoadedTo k train left) where
+      abbrev j : ℕ
+      j = at order (k - 1)
+
+      part : LoadedTo (suc (k - 1)) train left
+      part = let e : k ≡ suc (k - 1) = omega arith in rw e at so-far
+
+      of-rank : (j < n) × (rank-among release n j ≡ k - 1)
+      of-rank =
+          let (i, l, e) = ranked release n (k - 1) (omega arith) in
+          let is : j ≡ i = ap (at order) (sym e) ∙ to-load .ordered i l in
+          (omega arith, ap (rank-among release n) is ∙ e)
+
+      pub is-order : j < n
+      is-order = of-rank .0
+
+      pub may-ride : at train j ≤ q
+      may-ride = omega (arith, part .ahead j is-order (omega (arith, of-rank .1)), getD-take n latest j 0 is-order, to-load .up-to j is-order)
+
+      pub may-load : SomeOpen (nth left) (at train j)
+      may-load =
+          some-open n (rank-among release n) (nth capacity) (take n latest) (loading-of n q release capacity latest) greedy-by-rank (same-rank release n)
+          (k - 1) train left part j is-order (of-rank .1) (to-load .loaded j is-order)
+
+      pub one-loaded : (r : ℕ) → LastOpen (nth left) (at train j) r → j < length train → r - 1 < length left
+          → LoadedTo (k - 1) (set train j r) (set left (r - 1) (nth left r - 1))
+      one-loaded r o =
+          let some = to-load .loaded j is-order in
+          part-next n (rank-among release n) (nth capacity) (take n latest) (loading-of n q release capacity latest) greedy-by-rank (same-rank release n)
+          (k - 1) train left part j is-order (of-rank .1) some r
+          (is-train n (rank-among release n) (nth capacity) (take n latest) (loading-of n q release capacity latest) greedy-by-rank (same-rank release n)
+          (k - 1) train left part j is-order (of-rank .1) some r o)

@@ -9,8 +9,9 @@ pub record SomeOpen (left : ℕ → ℕ) (latest : ℕ) : Type 0 where
   pub up-to : train ≤ latest
   pub place : 1 ≤ left train
 
--- train r is the last one up to this one with a place left; 0 if there is none
+-- train r is the last one up to this one with a place left
 pub record LastOpen (left : ℕ → ℕ) (latest r : ℕ) : Type 0 where
+  pub first : 1 ≤ r
   pub up-to : r ≤ latest
-  pub place : 1 ≤ r → 1 ≤ left r
+  pub place : 1 ≤ left r
   pub full : (i : ℕ) → r < i → i ≤ latest → left i ≡ 0

@@ -1,7 +1,8 @@
 -- Laws by which code is shown to compute the worst lateness and steps 4 and 5, a branch or a turn at a time. Assumes nothing.
 use mathlib.Core.Path.{_≡_, refl, sym, ap, _∙_}
-use mathlib.Core.Bool.{true, false, _||_}
-use mathlib.Core.List.{List, []}
+use mathlib.Core.Logic.{_⊎_, inl, inr}
+use mathlib.Core.Bool.{Bool, true, false, _||_}
+use mathlib.Core.List.{List}
 use Prim.Native.Nat.{ℕ, zero, suc, _+_, _-_, _≤_, _<_}
 use native.Mathlib.Omega.{arith}
 use native.Mathlib.Numerals.{add-one}
@@ -9,12 +10,13 @@ use native.Mathlib.Nat.{mul-le-mul}
 use lib.Dec.{leb, ltb}
 use lib.IntN.{ℤ, pos, negsuc, natAbs}
 use lib.ListN.{length, set, take}
-use lib.Seq.{take-suc-set, getD-take}
-use lib.Signed.{ltZ, leZ, mag}
+use lib.Seq.{take-suc, getD-take, getD-set-same, getD-set-other}
+use lib.Signed.{ltZ, mag}
+use mir.Val.{boolByte}
 use borrow.Author.Tests.{lt-ltb}
-use Rattle.numbers.specs.Counting.{at, nth, count, larger, greatest, table}
-use Rattle.numbers.specs.CountingLaws.{count-cong}
-use Rattle.numbers.specs.DecidesLaws.{decides-le, decides-lt, test-true, test-false, test-means, test-fails}
+use Rattle.numbers.specs.Counting.{at, nth, count, one-if, larger, greatest, table}
+use Rattle.numbers.specs.CountingLaws.{count-cong, count-le}
+use Rattle.numbers.specs.DecidesLaws.{decided, decides-eq, decides-le, decides-lt, test-false}
 use Rattle.model.specs.Sheet.{places}
 use Rattle.model.specs.Lateness.{lateness, greatest-lateness}
 use Rattle.model.specs.LatenessLaws.{lateness-size}
@@ -32,19 +34,6 @@ larger-second a b e = rw e
 
 pub larger-first : (a b : ℤ) → ltZ a b ≡ false → a ≡ larger a b
 larger-first a b e = rw e
-
--- a test of ≤ is the test of < the other way round, with the other outcome
-pub not-below : (a b : ℤ) → leZ a b ≡ true → ltZ b a ≡ false
-not-below (pos a) (pos b) e = test-false (decides-lt b a) (λ l. omega (arith, l, test-means (decides-le a b) e))
-not-below (pos a) (negsuc b) e = sym e
-not-below (negsuc a) (pos b) e = refl
-not-below (negsuc a) (negsuc b) e = test-false (decides-lt a b) (λ l. omega (arith, l, test-means (decides-le b a) e))
-
-pub is-below : (a b : ℤ) → leZ a b ≡ false → ltZ b a ≡ true
-is-below (pos a) (pos b) e = let h : ¬ (a ≤ b) = test-fails (decides-le a b) e in test-true (decides-lt b a) (omega arith)
-is-below (pos a) (negsuc b) e = refl
-is-below (negsuc a) (pos b) e = sym e
-is-below (negsuc a) (negsuc b) e = let h : ¬ (b ≤ a) = test-fails (decides-le b a) e in test-true (decides-lt a b) (omega arith)
 
 -- a lateness in the table's ranges
 pub lateness-small : (w f d : ℕ) → w ≤ 1000 → f ≤ 160000 → d ≤ 100000 → natAbs (lateness w f d) ≤ 160000000
@@ -125,18 +114,52 @@ lower-taken weight due arrival y latest q zero h = refl
 lower-taken weight due arrival y latest q (suc n) h =
     rw (lower-taken weight due arrival y latest q n (λ j l. h j (omega arith)), latest-taken (weight n) (due n) arrival y q (at latest n) (h n (omega arith)))
 
-module _ (weight due F : ℕ → ℕ) (y : ℤ) (latest : List ℕ) where
-  pub lower-none : [] ≡ lower 0 weight due F y latest
-  unfolding lower
-  lower-none = refl
+module _ (weight due F : ℕ → ℕ) (y : ℤ) (latest : List ℕ) (all : ℕ) where
+  -- of `all` latest trains the first n are as they were and the others are lowered
+  pub record LoweredFrom (n : ℕ) (now : List ℕ) : Type 0 where
+    pub kept : (k : ℕ) → k < n → at now k ≡ at latest k
+    pub done : (k : ℕ) → n ≤ k → k < all → at now k ≡ latest-below (weight k) (due k) F y (at latest k)
 
-  -- the store of the latest train of the order at place j, behind those before it
-  pub lower-more : (l : List ℕ) (j v : ℕ) → j < length l → take j l ≡ lower j weight due F y latest
-      → v ≡ latest-below (weight j) (due j) F y (at latest j) → take (j + 1) (set l j v) ≡ lower (j + 1) weight due F y latest
-  unfolding lower
-  lower-more l j v long e u = rw (add-one, take-suc-set l j v long, e, u)
+  pub lowered-none : LoweredFrom all latest
+  lowered-none = record { kept = λ k l. refl; done = λ k l m. absurd (omega arith) }
+
+  -- the store of one more, before those
+  pub lowered-more : (n : ℕ) (now : List ℕ) (v : ℕ) → 0 < n → n ≤ length now
+      → v ≡ latest-below (weight (n - 1)) (due (n - 1)) F y (at now (n - 1)) → LoweredFrom n now → LoweredFrom (n - 1) (set now (n - 1) v)
+  lowered-more n now v some few e s =
+      record {
+        kept = λ k l. getD-set-other now (n - 1) k v 0 (λ u. omega arith) ∙ s .kept k (omega arith);
+        done = λ k l m. go k l m (decided (decides-eq k (n - 1)));
+      }
+    where
+      go : (k : ℕ) → n - 1 ≤ k → k < all → (k ≡ n - 1) ⊎ (¬ (k ≡ n - 1)) → at (set now (n - 1) v) k ≡ latest-below (weight k) (due k) F y (at latest k)
+      go k l m (inl u) = rw (u, getD-set-same now (n - 1) v 0 (omega arith), e, s .kept (n - 1) (omega arith))
+      go k l m (inr u) = getD-set-other now (n - 1) k v 0 u ∙ s .done k (omega arith) m
+
+  taken : (now : List ℕ) → LoweredFrom 0 now → (n : ℕ) → n ≤ all → n ≤ length now → take n now ≡ lower n weight due F y (take all latest)
+  unfolding lower table
+  taken now s zero l m = refl
+  taken now s (suc n) l m =
+      let is = s .done n (omega arith) (omega arith) in
+      rw (take-suc now n 0 (omega arith), taken now s n (omega arith) (omega arith), is, getD-take all latest n 0 (omega arith))
+
+  pub lowered-all : (n : ℕ) (now : List ℕ) → n ≡ 0 → all ≤ length now → LoweredFrom n now → take all now ≡ lower all weight due F y (take all latest)
+  lowered-all n now e m s = taken now (rw e at s) all (omega arith) m
 
 -- ---- crowding
+
+byte-bit : (b : Bool) → boolByte b ≡ one-if b
+byte-bit true = refl
+byte-bit false = refl
+
+-- a count of tests, each as a byte
+pub count-byte : (p : ℕ → Bool) (j : ℕ) → count p j + boolByte (p j) ≡ count p (j + 1)
+unfolding count
+count-byte p j = rw add-one (omega (arith, byte-bit (p j)))
+
+or-false : (b : Bool) → (b || false) ≡ b
+or-false true = refl
+or-false false = refl
 
 module _ (n : ℕ) (capacity : ℕ → ℕ) (latest : List ℕ) where
   -- the code's sum of places stands for the definition's, and only the first n orders count
@@ -148,10 +171,29 @@ module _ (n : ℕ) (capacity : ℕ → ℕ) (latest : List ℕ) where
           count-cong (λ j. decides-le (at latest j) i) (λ j. decides-le (at (take n latest) j) i) n
           (λ j l h. omega (arith, getD-take n latest j 0 l)) (λ j l h. omega (arith, getD-take n latest j 0 l))
 
-  pub crowded-start : crowded-at n capacity latest 0 ≡ crowded n capacity latest 0
+  -- whether it is crowded at some number below i
+  unfoldable pub crowded-below : ℕ → Bool
   unfolding crowded
-  crowded-start = refl
+  crowded-below zero = false
+  crowded-below (suc i) = crowded n capacity latest i
 
-  pub crowded-more : (i : ℕ) → (crowded-at n capacity latest (i + 1) || crowded n capacity latest i) ≡ crowded n capacity latest (i + 1)
-  unfolding crowded
-  crowded-more i = rw (add-one i)
+  pub crowded-none : false ≡ crowded-below 0
+  unfolding crowded-below
+  crowded-none = refl
+
+  pub crowded-more : (i : ℕ) → (crowded-at n capacity latest i || crowded-below i) ≡ crowded-below (i + 1)
+  unfolding crowded-below crowded
+  crowded-more zero = or-false (crowded-at n capacity latest 0)
+  crowded-more (suc i) = rw (add-one (suc i))
+
+  crowded-last : (q : ℕ) → crowded-at n capacity latest q ≡ false → crowded-below q ≡ crowded n capacity latest q
+  unfolding crowded-below crowded
+  crowded-last zero e = sym e
+  crowded-last (suc i) e = rw e
+
+  -- at q there is room for all
+  pub crowded-all : (i q : ℕ) → i ≡ q → n ≤ places capacity q → crowded-below i ≡ crowded n capacity latest q
+  crowded-all i q e room =
+      let most = count-le (λ j. leb (at latest j) q) n in
+      let fits = test-false (decides-lt (places capacity q) (count (λ j. leb (at latest j) q) n)) (λ l. omega (arith, l, room, most)) in
+      rw e (crowded-last q fits)

@@ -6,18 +6,10 @@ use model::limits::MOST_TRAINS;
 ghost use mathlib.Core.Path.{_≡_};
 ghost use Prim.Native.Nat.{_≤_};
 ghost use lib.ListN.{take};
-ghost use Rattle.numbers.specs.Counting.{at, nth, larger};
+ghost use Rattle.numbers.specs.Counting.{at, nth};
 ghost use Rattle.model.specs.Limits.{last-instant, last-arrival, weight-range, train-counts};
 ghost use Rattle.model.specs.Lateness.{lateness, greatest-lateness};
 ghost use Rattle.lowering.specs.Ranged.{Ranged, Arrives};
-
-// The weighted lateness of an order that arrives then.
-fn lateness_of(weight: u32, arrival: u32, due: u32) -> i64
-    requires { ⌜ (weight ≤ weight-range .most) × (arrival ≤ last-arrival) × (due ≤ last-instant) ⌝ }
-    ensures { λ r. ⌜ r ≡ lateness weight arrival due ⌝ }
-{
-    (weight as i64) * ((arrival as i64) - (due as i64))
-}
 
 // The weighted lateness of an order on train i.
 pub fn lateness_on(weight: u32, due: u32, arrival: &[u32; MOST_TRAINS], i: u8) -> i64
@@ -25,14 +17,7 @@ pub fn lateness_on(weight: u32, due: u32, arrival: &[u32; MOST_TRAINS], i: u8) -
     requires { ⌜ (1 ≤ i) × (i ≤ train-counts .most) × (nth (now arrival) i ≤ last-arrival) ⌝ }
     ensures { λ r. ⌜ r ≡ lateness weight (nth (now (arrival .entry)) i) due ⌝ }
 {
-    lateness_of(weight, of_train(arrival, i), due)
-}
-
-// The larger of two numbers.
-fn larger_of(a: i64, b: i64) -> i64
-    ensures { λ r. ⌜ r ≡ larger a b ⌝ }
-{
-    if a < b { b } else { a }
+    (weight as i64) * ((of_train(arrival, i) as i64) - (due as i64))
 }
 
 // The greatest weighted lateness of n orders on these trains; it starts below every lateness.
@@ -49,7 +34,10 @@ pub fn worst_of(
     let mut worst = 0 - FIRST_LIMIT;
     let mut j: usize = 0;
     while j < n {
-        worst = larger_of(worst, lateness_on(weight[j], due[j], &arrival, train[j]));
+        let late = lateness_on(weight[j], due[j], &arrival, train[j]);
+        if worst < late {
+            worst = late;
+        }
         j += 1;
     }
     worst

@@ -28,9 +28,10 @@ pub fn round(
         (state r (areas (now (pairs .exit)) (now («train_of_order» .exit)) (now (times .exit)))) (round-of (sheetOf sheet)) ⌝ }
     ensures counts { λ r. ⌜ r .rounds ≡ progress .rounds + 1 ⌝ }
 {
+    let capacity = sheet.capacity;
     let order = progress.order;
     let latest = progress.latest;
-    let train = loading::load(sheet, order, latest);
+    let train = loading::load(sheet.order_count, capacity, order, latest);
     let timed = timing::time_trains(sheet, train);
     progress.rounds = progress.rounds + 1;
     progress.ended = true;
@@ -56,7 +57,6 @@ pub fn round(
             progress.limit,
             latest,
         );
-        let capacity = sheet.capacity;
         progress.ended = is_crowded(sheet.order_count, sheet.train_count, capacity, lowered);
         progress.latest = lowered;
     }

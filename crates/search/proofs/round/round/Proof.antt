@@ -19,9 +19,11 @@ use Rattle.model.specs.Lateness.{worst}
 use Rattle.model.specs.Limits.{last-arrival}
 use Rattle.rounds.specs.Areas.{Areas}
 use Rattle.rounds.specs.Recording.{Plan}
+use Rattle.rounds.specs.Rounds.{loading}
 use Rattle.rounds.specs.LoadLaws.{load-length}
 use Rattle.rounds.specs.Told.{areas}
 use Rattle.columns.specs.Columns.{UpTo, Loaded}
+use Rattle.loading.specs.ToLoad.{ToLoad}
 use Rattle.lowering.specs.LoweringStepLaws.{worst-taken, lower-taken}
 use Rattle.search.specs.StepsOf.{graded}
 use Rattle.search.specs.Shows.{state, Leads}
@@ -36,7 +38,7 @@ use Rattle.search.proofs.round.round.Tie as tie
 
 -- ways back: to the entry from the columns, to the timing from the plan, and to the plan from where it is graded
 abbrev entry : tie.After-latest → tie.Start
-entry c = c .before .before .before .before
+entry c = c .before .before .before .before .before
 
 abbrev timed : tie.After-arrival → tie.After-time-trains
 timed c = c .before .before .before .before .before .before
@@ -54,11 +56,20 @@ lent s = areas (s .args .pairs .now) (s .args .train-of-order .now) (s .args .ti
 begins : (s : tie.Start) → Begun (sheet s) (s .args .progress)
 begins s = begun (sheet s) (s .pre .0 .0) (s .args .progress) (lent s) (s .pre .1 .1) (s .pre .1 .0)
 
-load-requires : tie.Need-load-requires
-load-requires c κs = let s = entry c in let b = begins s in ((s .pre .0 .0, b .ordered, b .latest), b .loads)
+to-load : (s : tie.Start) → let m = sheet s in let p = s .args .progress in
+    ToLoad (m .orders) (m .trains) (m .release) (s .args .sheet .capacity) (p .order) (p .latest)
+to-load s =
+    let a = s .pre .0 .0 in
+    let b = begins s in
+    record { few-orders = a .few .orders; few-trains = a .few .trains; ordered = b .ordered; up-to = b .latest; loaded = λ j l. b .loads j l .0 }
+
+-- the first orders' trains are document 01's loading
+loaded : (c : tie.After-load) → let s = entry (c .before) in
+    take (sheet s .orders) (c .load .result) ≡ loading (sheet s) (take (sheet s .orders) (s .args .progress .latest))
+loaded c = let s = entry (c .before) in c .load .ensures (sheet s .trains) (sheet s .release) (to-load s)
 
 loads : (c : tie.After-load) → Loaded (sheet (entry (c .before))) (c .load .result)
-loads c = let s = entry (c .before) in loaded-column (sheet s) (c .load .result) _ (c .load .ensures) (begins s .loads)
+loads c = let s = entry (c .before) in loaded-column (sheet s) (c .load .result) _ (loaded c) (begins s .loads)
 
 -- where the plan is made: the loading, its times, and the entry
 module _ (c : tie.After-arrival) where
@@ -83,7 +94,7 @@ module _ (c : tie.After-arrival) where
   placed : length (plan .train) ≡ sheet start .orders
   placed =
       let m = sheet start in
-      ap (λ (l : List ℕ). length l) (times .before .load .ensures)
+      ap (λ (l : List ℕ). length l) (loaded (times .before))
       ∙ load-length (m .orders) (m .trains) (m .release) (m .capacity) (take (m .orders) (start .args .progress .latest))
 
 -- where its worst lateness is found
@@ -177,7 +188,7 @@ grades c =
 
 returns : tie.Need-returns
 returns c =
-    let lower = c .before .before in
+    let lower = c .before in
     let j = lower .before .before in
     let t = j .before in
     let made = made t in
@@ -190,9 +201,9 @@ returns c =
     let latest = take (m .orders) (p .latest) in
     let low : (k : ℕ) → k < m .orders → at latest k ≤ m .trains = λ k l. omega (arith, getD-take (m .orders) (p .latest) k 0 l, begins s .latest k l) in
     let lowered = rw limit at (lower .lower .ensures) ∙ lower-taken (m .weight) (m .due) (arrival made) y latest (m .trains) (m .orders) low in
-    let load = times made .before .load in
+    let load = times made .before in
     let time = times made .time-trains in (
-      round-made m p (lent s) (s .pre .1 .0) (load .result) (time .result) (load .ensures) (time .ensures) (runs made) _ (between p (j .if2 .progress)) _
+      round-made m p (lent s) (s .pre .1 .0) (load .load .result) (time .result) (loaded load) (time .ensures) (runs made) _ (between p (j .if2 .progress)) _
           (g .leads)
           (settles m (between p (j .if2 .progress)) _ (nth (plan made .arrival)) refl (g .order-same) refl refl refl (g .counted) lowered
           (c .is-crowded .ensures)),
@@ -205,7 +216,7 @@ returns-2 c =
     let load = time .before in
     let s = entry (load .before) in
     let p = s .args .progress in (
-      round-stopped (sheet s) p (lent s) (s .pre .1 .0) (load .load .result) (time .time-trains .result) (load .load .ensures) (time .time-trains .ensures)
+      round-stopped (sheet s) p (lent s) (s .pre .1 .0) (load .load .result) (time .time-trains .result) (loaded load) (time .time-trains .ensures)
           (c .if1 .left) _ (halts p _ (s .pre .1 .0) refl refl refl refl refl),
       refl,
     )
@@ -213,13 +224,13 @@ returns-2 c =
 pub round-spec : {M : Type 1} → statement M
 round-spec =
     tie.close
-    (tie.spec load-requires (λ c κs. (entry (c .before) .pre .0 .0, loads c)) (λ c. omega (arith, begins (entry (c .before .before .before)) .rounds))
+    (tie.spec (λ c κs. let s = entry c in (sheet s .trains, sheet s .release, to-load s)) (λ c κs. (entry (c .before) .pre .0 .0, loads c)) (λ c. omega (arith, begins (entry (c .before .before .before)) .rounds))
     worst-of-requires (λ c κs. let a = at-start (c .before) .pre .0 .0 in (a .complete .trains, a .few .trains))
     list-pair-requires (λ c κs. let s = at-start (c .before .before .before .before .before .before) in (s .pre .0 .0 .few .orders, s .pre .0 .1 .trains))
     (λ c κs. let s = at-start (c .before .before .before .before .before .before .before .before .before .before) in
     (s .pre .0 .0 .few .trains, s .pre .0 .1 .times)) lower-requires
-    (λ c κs. let s = at-start (c .before .before .before .before) in
+    (λ c κs. let s = at-start (c .before .before .before) in
     let a = s .pre .0 .0 in
-    (a .few .orders, a .few .trains, capacities (s .args .sheet) a))
-    (λ c. grades (c .before .before .before .before) .pairs-long) (λ c. grades (c .before .before .before .before) .trains-long)
-    (λ c. grades (c .before .before .before .before) .times-long) returns returns-2)
+    (a .few .orders, a .few .trains, capacities (s .args .sheet) a, omega (arith, a .balanced)))
+    (λ c. grades (c .before .before .before) .pairs-long) (λ c. grades (c .before .before .before) .trains-long)
+    (λ c. grades (c .before .before .before) .times-long) returns returns-2)
