@@ -20,12 +20,13 @@ use Rattle.rounds.specs.Rounds.{Answer, refused, planned, plan}
 use Rattle.rounds.specs.Areas.{Areas, LongEnough, long-enough, answer-after, answer-to, reply, areas-after}
 use Rattle.rounds.specs.AreaLaws.{decides-long-enough}
 use Rattle.rounds.specs.Told.{Told}
+use Rattle.planner.specs.Refused.{refused-by}
 
 module _ (s : Sheet) (lent : Areas) where
   -- ---- what the tests answer
 
   -- tests 4, 5, 2, 6, 7
-  pub answer-not-admitted : (r : Refusal) → admission s ≡ tests.Refused r → answer-to s lent ≡ refused r
+  answer-not-admitted : (r : Refusal) → admission s ≡ tests.Refused r → answer-to s lent ≡ refused r
   unfolding answer-to answer-after
   answer-not-admitted r e = ap (answer-after s lent) e
 
@@ -34,7 +35,7 @@ module _ (s : Sheet) (lent : Areas) where
   after-admission a = ap (answer-after s lent) (admitted-means s .1 a)
 
   -- test 10
-  pub answer-too-short : Admitted s → ¬ LongEnough s lent → answer-to s lent ≡ refused AreaTooShort
+  answer-too-short : Admitted s → ¬ LongEnough s lent → answer-to s lent ≡ refused AreaTooShort
   answer-too-short a l = after-admission a ∙ cond-no (decides-long-enough s lent) l _ _
 
   -- "then 8 or 9"
@@ -44,9 +45,21 @@ module _ (s : Sheet) (lent : Areas) where
   -- ---- told
 
   -- a refusal is told by its reply, and the areas as found
-  pub told-refused : (r : Refusal) → answer-to s lent ≡ refused r → Told s (answer-to s lent) (Refused r) lent lent
+  told-refused : (r : Refusal) → answer-to s lent ≡ refused r → Told s (answer-to s lent) (Refused r) lent lent
   unfolding reply areas-after
   told-refused r e = subst (λ (x : Answer). Told s x (Refused r) lent lent) (sym e) (record { replied = refl; areas-left = refl })
+
+  -- where the tests 4, 5, 2, 6, 7 say a, and r is told: the first that failed
+  pub told-not-admitted : (a : Admission) (f : Refusal) (r : Reply) → a ≡ admission s → a ≡ tests.Refused f → r ≡ refused-by a
+      → Told s (answer-to s lent) r lent lent
+  unfolding refused-by
+  told-not-admitted a f r is e u = rw (u, e) (told-refused f (answer-not-admitted f (sym is ∙ e)))
+
+  -- test 10
+  pub told-too-short : (a : Admission) (r : Reply) → a ≡ admission s → a ≡ tests.Granted → r ≡ refused-by a → ¬ LongEnough s lent
+      → Told s (answer-to s lent) r lent lent
+  unfolding refused-by
+  told-too-short a r is e u l = rw (u, e) (told-refused AreaTooShort (answer-too-short (admitted-means s .0 (sym is ∙ e)) l))
 
   -- what the rounds tell is what the call tells
   pub told-rounds : Admitted s → LongEnough s lent → (r : Reply) (left : Areas) → Told s (plan s) r left lent → Told s (answer-to s lent) r left lent

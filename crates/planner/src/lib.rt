@@ -8,6 +8,8 @@ use model::TimetableSheet;
 use model::WindowSheet;
 use model::limits::NUMBERS_A_PAIR;
 use model::limits::NUMBERS_A_TRAIN;
+use search::ends;
+use search::round::round;
 ghost use mathlib.Core.Path.{_≡_};
 ghost use mathlib.Core.Bool.{_&&_};
 ghost use Prim.Native.Nat.{_*_, _≤_};
@@ -16,6 +18,7 @@ ghost use Rattle.model.specs.Memory.{sheetOf, windowSheet, timetableSheet};
 ghost use Rattle.model.specs.Limits.{numbers-a-pair, numbers-a-train, order-counts, train-counts};
 ghost use Rattle.rounds.specs.Told.{areas};
 ghost use Rattle.planner.specs.Planning.{PlanningCall};
+ghost use Rattle.planner.specs.Refused.{refused-by};
 
 // Test 10: whether each area is long enough for an admitted sheet of n orders and q trains.
 fn are_long_enough(n: usize, q: usize, pairs: usize, trains: usize, times: usize) -> bool
@@ -25,22 +28,40 @@ fn are_long_enough(n: usize, q: usize, pairs: usize, trains: usize, times: usize
     (NUMBERS_A_PAIR * (n * q) <= pairs) & (n <= trains) & (NUMBERS_A_TRAIN * q <= times)
 }
 
-// Plans a sheet of either form: tests 4, 5, 2, 6 and 7, then 10, then the rounds.
+// What is told where no round is made: the first of tests 4, 5, 2, 6 and 7 that failed, or 10 where these passed.
+fn refused(admission: Admission) -> Reply
+    ensures { λ r. ⌜ r ≡ refused-by admission ⌝ }
+{
+    let Admission::Refused(refusal) = admission else {
+        return Reply::Refused(Refusal::AreaTooShort);
+    };
+    Reply::Refused(refusal)
+}
+
+// Plans a sheet of either form: tests 4, 5, 2, 6 and 7, then 10, then the rounds. They end by themselves: no search meets the limit on rounds.
 pub fn plan(sheet: Sheet, pairs: &mut [i64], train_of_order: &mut [u8], times: &mut [u32]) -> Reply
     ensures { λ r. ⌜ PlanningCall (sheetOf sheet) r
         (areas (now (pairs .exit)) (now («train_of_order» .exit)) (now (times .exit)))
         (areas (now (pairs .entry)) (now («train_of_order» .entry)) (now (times .entry))) ⌝ }
 {
     let admission = admission::admit(sheet);
-    if let Admission::Refused(refusal) = admission {
-        return Reply::Refused(refusal);
+    let Admission::Granted = admission else {
+        return refused(admission);
+    };
+    if !are_long_enough(
+        sheet.order_count,
+        sheet.train_count,
+        pairs.len(),
+        train_of_order.len(),
+        times.len(),
+    ) {
+        return refused(admission);
     }
-    let n = sheet.order_count;
-    let q = sheet.train_count;
-    if are_long_enough(n, q, pairs.len(), train_of_order.len(), times.len()) {
-        return search::run(sheet, pairs, train_of_order, times);
+    let mut progress = ends::start_search(sheet);
+    while !progress.ended {
+        progress = round(progress, sheet, pairs, train_of_order, times);
     }
-    Reply::Refused(Refusal::AreaTooShort)
+    ends::outcome(progress.pairs, progress.rounds)
 }
 
 // Plans a sheet of the window form.
