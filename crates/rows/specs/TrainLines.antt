@@ -12,7 +12,14 @@ use Rattle.rows.specs.declared.LineTests.{LineTests}
 use Rattle.rows.specs.declared.TrainRows.{TrainRows}
 
 unfoldable pub noTrains : TrainRows
-noTrains = record { count = 0; capacity = replicate (train-counts .most) 0; running = replicate (train-counts .most) 0; departure = replicate (train-counts .most) 0; arrival = replicate (train-counts .most) 0 }
+noTrains =
+    record {
+      count = 0;
+      capacity = replicate (train-counts .most) 0;
+      running = replicate (train-counts .most) 0;
+      departure = replicate (train-counts .most) 0;
+      arrival = replicate (train-counts .most) 0;
+    }
 
 -- 2, "value outside its range"
 abbrev pub trainInRange : Train → Bool

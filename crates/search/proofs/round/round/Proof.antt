@@ -224,7 +224,8 @@ returns-2 c =
 pub round-spec : {M : Type 1} → statement M
 round-spec =
     tie.close
-    (tie.spec (λ c κs. let s = entry c in (sheet s .trains, sheet s .release, to-load s)) (λ c κs. (entry (c .before) .pre .0 .0, loads c)) (λ c. omega (arith, begins (entry (c .before .before .before)) .rounds))
+    (tie.spec (λ c κs. let s = entry c in (sheet s .trains, sheet s .release, to-load s)) (λ c κs. (entry (c .before) .pre .0 .0, loads c))
+    (λ c. omega (arith, begins (entry (c .before .before .before)) .rounds))
     worst-of-requires (λ c κs. let a = at-start (c .before) .pre .0 .0 in (a .complete .trains, a .few .trains))
     list-pair-requires (λ c κs. let s = at-start (c .before .before .before .before .before .before) in (s .pre .0 .0 .few .orders, s .pre .0 .1 .trains))
     (λ c κs. let s = at-start (c .before .before .before .before .before .before .before .before .before .before) in
