@@ -2,4 +2,5 @@ pub mod Ranks
 pub mod RankLaws
 pub mod Open
 pub mod ToLoad
+pub mod SoFar
 pub mod OnePassLaws

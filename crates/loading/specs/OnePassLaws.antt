@@ -2,43 +2,36 @@
 -- left: that is its train in a greedy loading. Assumes nothing.
 use mathlib.Core.Path.{_≡_, refl, sym, ap, _∙_, subst}
 use mathlib.Core.Logic.{_⊎_, inl, inr}
-use mathlib.Core.Bool.{Bool, _&&_}
 use mathlib.Core.List.{List}
 use Prim.Native.Nat.{ℕ, suc, _-_, _≤_, _<_}
 use native.Mathlib.Omega.{arith}
-use lib.Dec.{leb}
 use lib.ListN.{length, set, take, length-take}
 use lib.Seq.{getD-take, getD-set-same, getD-set-other, ext-getD}
 use Rattle.numbers.specs.Counting.{at, nth, count}
 use Rattle.numbers.specs.DecidesLaws.{Decides, decides-le, decides-lt, decides-eq, decides-and, decided}
 use Rattle.numbers.specs.CountingLaws.{count-cong, count-lt, count-none, count-disj, count-union, count-point}
-use Rattle.rounds.specs.LoadingLaws.{on, decides-on}
+use Rattle.rounds.specs.LoadingLaws.{decides-on}
 use Rattle.rounds.specs.LoadLaws.{load-greedy, load-length}
 use Rattle.rounds.specs.GreedyLaws.{Greedy}
 use Rattle.loading.specs.Ranks.{rank-among}
 use Rattle.loading.specs.RankLaws.{load-alike, rank-alike, rank-most, same-rank, ranked}
 use Rattle.loading.specs.Open.{SomeOpen, LastOpen}
 use Rattle.loading.specs.ToLoad.{loading-of, ToLoad}
+use Rattle.loading.specs.SoFar.{rides, Part, LoadedTo}
 
 module _ (n : ℕ) (rank capacity : ℕ → ℕ) (latest loaded : List ℕ) where
   -- order j rides train i and has rank k or more
   abbrev Rides : (i k j : ℕ) → Type 0
   Rides i k j = (at loaded j ≡ i) × (k ≤ rank j)
 
-  abbrev rides : (i k j : ℕ) → Bool
-  rides i k j = on loaded i j && leb k (rank j)
-
-  decides-rides : (i k j : ℕ) → Decides (Rides i k j) (rides i k j)
+  decides-rides : (i k j : ℕ) → Decides (Rides i k j) (rides rank loaded i k j)
   decides-rides i k j = decides-and (decides-on loaded i j) (decides-le k (rank j))
 
-  -- the orders of rank k or more have their trains, the others still their latest trains, and the places left are those that nobody has taken
-  pub record Part (k : ℕ) (train left : List ℕ) : Type 0 where
-    pub done : (j : ℕ) → j < n → k ≤ rank j → at train j ≡ at loaded j
-    pub ahead : (j : ℕ) → j < n → rank j < k → at train j ≡ at latest j
-    pub places : (i : ℕ) → 1 ≤ i → nth left i ≡ capacity i - count (rides i k) n
+  abbrev PartTo : (k : ℕ) (train left : List ℕ) → Type 0
+  PartTo = Part n rank capacity latest loaded
 
   pub part-start : (k : ℕ) (train left : List ℕ) → k ≡ n → ((j : ℕ) → j < n → rank j < n) → ((j : ℕ) → j < n → at train j ≡ at latest j)
-      → ((i : ℕ) → 1 ≤ i → nth left i ≡ capacity i) → Part k train left
+      → ((i : ℕ) → 1 ≤ i → nth left i ≡ capacity i) → PartTo k train left
   part-start k train left all low same full =
       record {
         done = λ j l h. absurd (omega (arith, low j l));
@@ -46,7 +39,7 @@ module _ (n : ℕ) (rank capacity : ℕ → ℕ) (latest loaded : List ℕ) wher
         places = λ i l. omega (arith, full i l, count-none (decides-rides i k) n (λ j m h. omega (arith, h .1, low j m)));
       }
 
-  pub part-all : (k : ℕ) (train left : List ℕ) → k ≡ 0 → n ≤ length train → length loaded ≡ n → Part k train left → take n train ≡ loaded
+  pub part-all : (k : ℕ) (train left : List ℕ) → k ≡ 0 → n ≤ length train → length loaded ≡ n → PartTo k train left → take n train ≡ loaded
   part-all k train left none long size part =
       let short : length (take n train) ≡ n = omega (arith, length-take n train) in
       ext-getD 0 (take n train) loaded (short ∙ sym size)
@@ -54,7 +47,7 @@ module _ (n : ℕ) (rank capacity : ℕ → ℕ) (latest loaded : List ℕ) wher
 
   -- the next order, of rank p, where no two orders have one rank
   module _ (greedy : Greedy n capacity rank latest loaded) (own : (j k : ℕ) → j < n → k < n → rank j ≡ rank k → j ≡ k)
-      (p : ℕ) (train left : List ℕ) (part : Part (suc p) train left) (j : ℕ) (l : j < n) (is : rank j ≡ p) (some : 1 ≤ at loaded j) where
+      (p : ℕ) (train left : List ℕ) (part : PartTo (suc p) train left) (j : ℕ) (l : j < n) (is : rank j ≡ p) (some : 1 ≤ at loaded j) where
     may : at train j ≡ at latest j
     may = part .ahead j l (omega arith)
 
@@ -95,7 +88,7 @@ module _ (n : ℕ) (rank capacity : ℕ → ℕ) (latest loaded : List ℕ) wher
         go (inr u) (inr v) = omega arith
 
     -- one more on its train, and none on the others
-    own-more : count (rides (at loaded j) p) n ≡ suc (count (rides (at loaded j) (suc p)) n)
+    own-more : count (rides rank loaded (at loaded j) p) n ≡ suc (count (rides rank loaded (at loaded j) (suc p)) n)
     own-more =
         omega (
           arith,
@@ -111,7 +104,7 @@ module _ (n : ℕ) (rank capacity : ℕ → ℕ) (latest loaded : List ℕ) wher
         go y m h (inl u) = inl (own y j m l (u ∙ sym is))
         go y m h (inr u) = inr (h .0, omega (arith, h .1))
 
-    others-same : (i : ℕ) → ¬ (i ≡ at loaded j) → count (rides i p) n ≡ count (rides i (suc p)) n
+    others-same : (i : ℕ) → ¬ (i ≡ at loaded j) → count (rides rank loaded i p) n ≡ count (rides rank loaded i (suc p)) n
     others-same i other =
         count-cong (decides-rides i p) (decides-rides i (suc p)) n (λ y m h. (h .0, go y m h (decided (decides-eq (rank y) p))))
         (λ y m h. (h .0, omega (arith, h .1)))
@@ -122,7 +115,7 @@ module _ (n : ℕ) (rank capacity : ℕ → ℕ) (latest loaded : List ℕ) wher
 
     -- it takes its place
     pub part-next : (r : ℕ) → r ≡ at loaded j → j < length train → r - 1 < length left
-        → Part p (set train j r) (set left (r - 1) (nth left r - 1))
+        → PartTo p (set train j r) (set left (r - 1) (nth left r - 1))
     part-next r e long long′ =
         record {
           done = λ y m h. then y m h (decided (decides-eq y j));
@@ -136,7 +129,7 @@ module _ (n : ℕ) (rank capacity : ℕ → ℕ) (latest loaded : List ℕ) wher
             let v : ¬ (rank y ≡ p) = λ w. u (own y j m l (w ∙ sym is)) in
             getD-set-other train j y r 0 u ∙ part .done y m (omega arith)
 
-        left-over : (i : ℕ) → 1 ≤ i → (i ≡ r) ⊎ (¬ (i ≡ r)) → nth (set left (r - 1) (nth left r - 1)) i ≡ capacity i - count (rides i p) n
+        left-over : (i : ℕ) → 1 ≤ i → (i ≡ r) ⊎ (¬ (i ≡ r)) → nth (set left (r - 1) (nth left r - 1)) i ≡ capacity i - count (rides rank loaded i p) n
         left-over i k (inl u) =
             rw (u, e)
             (getD-set-same left (at loaded j - 1) (nth left (at loaded j) - 1) 0 (rw e at long′)
@@ -148,9 +141,8 @@ module _ (n : ℕ) (rank capacity : ℕ → ℕ) (latest loaded : List ℕ) wher
 -- ---- the code's columns
 
 module _ (n q : ℕ) (release : ℕ → ℕ) (capacity order latest : List ℕ) where
-  -- loaded down to rank k
-  abbrev pub LoadedTo : (k : ℕ) (train left : List ℕ) → Type 0
-  LoadedTo = Part n (rank-among release n) (nth capacity) (take n latest) (loading-of n q release capacity latest)
+  abbrev ColumnsTo : (k : ℕ) (train left : List ℕ) → Type 0
+  ColumnsTo = LoadedTo n q release capacity latest
 
   module _ (to-load : ToLoad n q release capacity order latest) where
     -- the loading is greedy by rank
@@ -161,23 +153,23 @@ module _ (n q : ℕ) (release : ℕ → ℕ) (capacity order latest : List ℕ) 
         (load-alike release rank n (rank-alike release n) (take n latest) (nth capacity) q)
         (load-greedy n q rank (nth capacity) (take n latest) (λ j l. omega (arith, getD-take n latest j 0 l, to-load .up-to j l)))
 
-    pub none-loaded : LoadedTo n latest capacity
+    pub none-loaded : ColumnsTo n latest capacity
     none-loaded =
         part-start n (rank-among release n) (nth capacity) (take n latest) _ n latest capacity refl (rank-most release n)
         (λ j l. sym (getD-take n latest j 0 l)) (λ i l. refl)
 
-    pub all-loaded : (k : ℕ) (train left : List ℕ) → k ≡ 0 → n ≤ length train → LoadedTo k train left
+    pub all-loaded : (k : ℕ) (train left : List ℕ) → k ≡ 0 → n ≤ length train → ColumnsTo k train left
         → take n train ≡ loading-of n q release capacity latest
     all-loaded k train left none long part =
         part-all n (rank-among release n) (nth capacity) (take n latest) _ k train left none long
         (load-length n q release (nth capacity) (take n latest)) part
 
     -- the next order, where k are not loaded
-    module _ (k : ℕ) (more : 0 < k) (few : k ≤ n) (train left : List ℕ) (so-far : LoadedTo k train left) where
+    module _ (k : ℕ) (more : 0 < k) (few : k ≤ n) (train left : List ℕ) (so-far : ColumnsTo k train left) where
       abbrev j : ℕ
       j = at order (k - 1)
 
-      part : LoadedTo (suc (k - 1)) train left
+      part : ColumnsTo (suc (k - 1)) train left
       part = let e : k ≡ suc (k - 1) = omega arith in rw e at so-far
 
       of-rank : (j < n) × (rank-among release n j ≡ k - 1)
@@ -198,7 +190,7 @@ module _ (n q : ℕ) (release : ℕ → ℕ) (capacity order latest : List ℕ) 
           (k - 1) train left part j is-order (of-rank .1) (to-load .loaded j is-order)
 
       pub one-loaded : (r : ℕ) → LastOpen (nth left) (at train j) r → j < length train → r - 1 < length left
-          → LoadedTo (k - 1) (set train j r) (set left (r - 1) (nth left r - 1))
+          → ColumnsTo (k - 1) (set train j r) (set left (r - 1) (nth left r - 1))
       one-loaded r o =
           let some = to-load .loaded j is-order in
           part-next n (rank-among release n) (nth capacity) (take n latest) (loading-of n q release capacity latest) greedy-by-rank (same-rank release n)

@@ -1,2 +1,3 @@
 pub mod Ranged
+pub mod SoFar
 pub mod LoweringStepLaws

@@ -21,6 +21,7 @@ use Rattle.model.specs.Sheet.{places}
 use Rattle.model.specs.Lateness.{lateness, greatest-lateness}
 use Rattle.model.specs.LatenessLaws.{lateness-size}
 use Rattle.rounds.specs.Lowering.{latest-below, lower, crowded-at, crowded}
+use Rattle.lowering.specs.SoFar.{LoweredFrom, crowded-below}
 
 -- ---- signed numbers
 
@@ -115,17 +116,15 @@ lower-taken weight due arrival y latest q (suc n) h =
     rw (lower-taken weight due arrival y latest q n (λ j l. h j (omega arith)), latest-taken (weight n) (due n) arrival y q (at latest n) (h n (omega arith)))
 
 module _ (weight due F : ℕ → ℕ) (y : ℤ) (latest : List ℕ) (all : ℕ) where
-  -- of `all` latest trains the first n are as they were and the others are lowered
-  pub record LoweredFrom (n : ℕ) (now : List ℕ) : Type 0 where
-    pub kept : (k : ℕ) → k < n → at now k ≡ at latest k
-    pub done : (k : ℕ) → n ≤ k → k < all → at now k ≡ latest-below (weight k) (due k) F y (at latest k)
+  abbrev From : (n : ℕ) (now : List ℕ) → Type 0
+  From = LoweredFrom weight due F y latest all
 
-  pub lowered-none : LoweredFrom all latest
+  pub lowered-none : From all latest
   lowered-none = record { kept = λ k l. refl; done = λ k l m. absurd (omega arith) }
 
   -- the store of one more, before those
   pub lowered-more : (n : ℕ) (now : List ℕ) (v : ℕ) → 0 < n → n ≤ length now
-      → v ≡ latest-below (weight (n - 1)) (due (n - 1)) F y (at now (n - 1)) → LoweredFrom n now → LoweredFrom (n - 1) (set now (n - 1) v)
+      → v ≡ latest-below (weight (n - 1)) (due (n - 1)) F y (at now (n - 1)) → From n now → From (n - 1) (set now (n - 1) v)
   lowered-more n now v some few e s =
       record {
         kept = λ k l. getD-set-other now (n - 1) k v 0 (λ u. omega arith) ∙ s .kept k (omega arith);
@@ -136,14 +135,14 @@ module _ (weight due F : ℕ → ℕ) (y : ℤ) (latest : List ℕ) (all : ℕ) 
       go k l m (inl u) = rw (u, getD-set-same now (n - 1) v 0 (omega arith), e, s .kept (n - 1) (omega arith))
       go k l m (inr u) = getD-set-other now (n - 1) k v 0 u ∙ s .done k (omega arith) m
 
-  taken : (now : List ℕ) → LoweredFrom 0 now → (n : ℕ) → n ≤ all → n ≤ length now → take n now ≡ lower n weight due F y (take all latest)
+  taken : (now : List ℕ) → From 0 now → (n : ℕ) → n ≤ all → n ≤ length now → take n now ≡ lower n weight due F y (take all latest)
   unfolding lower table
   taken now s zero l m = refl
   taken now s (suc n) l m =
       let is = s .done n (omega arith) (omega arith) in
       rw (take-suc now n 0 (omega arith), taken now s n (omega arith) (omega arith), is, getD-take all latest n 0 (omega arith))
 
-  pub lowered-all : (n : ℕ) (now : List ℕ) → n ≡ 0 → all ≤ length now → LoweredFrom n now → take all now ≡ lower all weight due F y (take all latest)
+  pub lowered-all : (n : ℕ) (now : List ℕ) → n ≡ 0 → all ≤ length now → From n now → take all now ≡ lower all weight due F y (take all latest)
   lowered-all n now e m s = taken now (rw e at s) all (omega arith) m
 
 -- ---- crowding
@@ -171,28 +170,25 @@ module _ (n : ℕ) (capacity : ℕ → ℕ) (latest : List ℕ) where
           count-cong (λ j. decides-le (at latest j) i) (λ j. decides-le (at (take n latest) j) i) n
           (λ j l h. omega (arith, getD-take n latest j 0 l)) (λ j l h. omega (arith, getD-take n latest j 0 l))
 
-  -- whether it is crowded at some number below i
-  unfoldable pub crowded-below : ℕ → Bool
-  unfolding crowded
-  crowded-below zero = false
-  crowded-below (suc i) = crowded n capacity latest i
+  abbrev below : ℕ → Bool
+  below = crowded-below n capacity latest
 
-  pub crowded-none : false ≡ crowded-below 0
+  pub crowded-none : false ≡ below 0
   unfolding crowded-below
   crowded-none = refl
 
-  pub crowded-more : (i : ℕ) → (crowded-at n capacity latest i || crowded-below i) ≡ crowded-below (i + 1)
+  pub crowded-more : (i : ℕ) → (crowded-at n capacity latest i || below i) ≡ below (i + 1)
   unfolding crowded-below crowded
   crowded-more zero = or-false (crowded-at n capacity latest 0)
   crowded-more (suc i) = rw (add-one (suc i))
 
-  crowded-last : (q : ℕ) → crowded-at n capacity latest q ≡ false → crowded-below q ≡ crowded n capacity latest q
+  crowded-last : (q : ℕ) → crowded-at n capacity latest q ≡ false → below q ≡ crowded n capacity latest q
   unfolding crowded-below crowded
   crowded-last zero e = sym e
   crowded-last (suc i) e = rw e
 
   -- at q there is room for all
-  pub crowded-all : (i q : ℕ) → i ≡ q → n ≤ places capacity q → crowded-below i ≡ crowded n capacity latest q
+  pub crowded-all : (i q : ℕ) → i ≡ q → n ≤ places capacity q → below i ≡ crowded n capacity latest q
   crowded-all i q e room =
       let most = count-le (λ j. leb (at latest j) q) n in
       let fits = test-false (decides-lt (places capacity q) (count (λ j. leb (at latest j) q) n)) (λ l. omega (arith, l, room, most)) in

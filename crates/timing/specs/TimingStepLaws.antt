@@ -31,7 +31,7 @@ use Rattle.timing.specs.Timed.{never, departed-in, WindowsOver, HaveLeft
 -- ---- the releases on the trains
 
 module _ (release : ℕ → ℕ) (train : List ℕ) where
-  pub releases-none : replicate 32 0 ≡ row (ready release train 0) 32
+  pub releases-none : replicate (train-counts .most) 0 ≡ row (ready release train 0) (train-counts .most)
   unfolding table ready
   releases-none = refl
 
@@ -152,10 +152,12 @@ module _ (w : Windows) (released : ℕ → ℕ) where
         go zero e = absurd (e refl)
         go (suc m) e = refl
 
-pub left-none : HaveLeft 0 (replicate 32 never)
-left-none = (refl, λ k l. absurd (omega arith), λ k l m. getD-replicate {A = ℕ} 32 k never 0 m)
+-- ---- trains that have left
 
-pub left-more : (l : List ℕ) (i v : ℕ) → i < 32 → v ≤ last-instant → HaveLeft i l → HaveLeft (i + 1) (set l i v)
+pub left-none : HaveLeft 0 (replicate (train-counts .most) never)
+left-none = (refl, λ k l. absurd (omega arith), λ k l m. getD-replicate {A = ℕ} (train-counts .most) k never 0 m)
+
+pub left-more : (l : List ℕ) (i v : ℕ) → i < train-counts .most → v ≤ last-instant → HaveLeft i l → HaveLeft (i + 1) (set l i v)
 left-more l i v few h (long, early, rest) =
     (length-set l i v ∙ long, λ k m. go k m (decided (decides-eq k i)), λ k m n. getD-set-other l i k v 0 (λ e. omega arith) ∙ rest k (omega arith) n)
   where
@@ -163,7 +165,7 @@ left-more l i v few h (long, early, rest) =
     go k m (inl e) = rw (e, getD-set-same l i v 0 (omega (arith, long))) h
     go k m (inr e) = rw (getD-set-other l i k v 0 e) (early k (omega arith))
 
-pub left-bound : (l : List ℕ) (i : ℕ) → HaveLeft i l → UpTo never 32 l
+pub left-bound : (l : List ℕ) (i : ℕ) → HaveLeft i l → UpTo never (train-counts .most) l
 left-bound l i (long, early, rest) k m = go (decided (decides-le i k))
   where
     go : (i ≤ k) ⊎ (¬ (i ≤ k)) → at l k ≤ never
@@ -190,7 +192,7 @@ module _ (l : List ℕ) (q : ℕ) where
   pub all-left : 1 ≤ q → HaveLeft q l → departed-in q l ≡ departed (take q l)
   all-left some (long, early, rest) = rw (lt-ltb (nth l q) never (omega (arith, early (q - 1) (omega arith))))
 
-  pub some-never : (i : ℕ) → i < q → q ≤ 32 → HaveLeft i l → departed-in q l ≡ none
+  pub some-never : (i : ℕ) → i < q → q ≤ train-counts .most → HaveLeft i l → departed-in q l ≡ none
   some-never i more few (long, early, rest) = rw (le-ltb (nth l q) never (omega (arith, rest (q - 1) (omega arith) (omega arith))))
 
 -- ---- arrivals
@@ -233,7 +235,7 @@ module _ (g : ℕ) (running departure : List ℕ) where
   abbrev arrives : ℕ → ℕ
   arrives = arrivalBehind g (nth running) (nth departure)
 
-  pub arrivals-first : (i own : ℕ) → i ≡ 1 → own ≡ nth departure i + nth running i → take i (replicate 32 own) ≡ row arrives i
+  pub arrivals-first : (i own : ℕ) → i ≡ 1 → own ≡ nth departure i + nth running i → take i (replicate (train-counts .most) own) ≡ row arrives i
   unfolding table
   arrivals-first i own e w = rw e (ap (λ (t : ℕ). t ∷ []) ((rw e at w) ∙ sym (arrival-first g (nth running) (nth departure))))
 

@@ -7,7 +7,8 @@ use lib.ListN.{length, length-set}
 use Rattle.numbers.specs.Counting.{at, nth}
 use Rattle.loading.specs.Open.{SomeOpen}
 use Rattle.loading.specs.ToLoad.{ToLoad}
-use Rattle.loading.specs.OnePassLaws.{LoadedTo, none-loaded, all-loaded, is-order, may-ride, may-load, one-loaded}
+use Rattle.loading.specs.SoFar.{LoadedTo}
+use Rattle.loading.specs.OnePassLaws.{none-loaded, all-loaded, is-order, may-ride, may-load, one-loaded}
 use Rattle.loading.proofs.load.Statement.{statement}
 use Rattle.loading.proofs.load.Tie as tie
 
@@ -16,7 +17,7 @@ Inv-loop all order capacity latest n left train =
     (n ≤ all)
     × (length train ≡ 200)
     × (length left ≡ 32)
-    × ((q : ℕ) (release : ℕ → ℕ) → ToLoad all q release capacity order latest → LoadedTo all q release capacity order latest n train left)
+    × ((q : ℕ) (release : ℕ → ℕ) → ToLoad all q release capacity order latest → LoadedTo all q release capacity latest n train left)
 
 abbrev μ-loop : tie.MeasureT-loop
 μ-loop all order capacity latest n left train = n

@@ -9,7 +9,8 @@ use Rattle.numbers.specs.Counting.{at, nth}
 use Rattle.model.specs.Sheet.{places as K}
 use Rattle.model.specs.SheetLaws.{places-start, places-more}
 use Rattle.rounds.specs.Lowering.{crowded-at}
-use Rattle.lowering.specs.LoweringStepLaws.{crowded-test, crowded-below, crowded-none, crowded-more, crowded-all}
+use Rattle.lowering.specs.SoFar.{crowded-below}
+use Rattle.lowering.specs.LoweringStepLaws.{crowded-test, crowded-none, crowded-more, crowded-all}
 use Rattle.lowering.proofs.is_crowded.Statement.{statement}
 use Rattle.lowering.proofs.is_crowded.Tie as tie
 

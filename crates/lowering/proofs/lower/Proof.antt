@@ -9,7 +9,8 @@ use mir.Facts.{toZ-ofZ}
 use mir.Val.{toZ}
 use mir.Syntax.{w64}
 use Rattle.numbers.specs.Counting.{at, nth}
-use Rattle.lowering.specs.LoweringStepLaws.{LoweredFrom, lowered-none, lowered-more, lowered-all}
+use Rattle.lowering.specs.SoFar.{LoweredFrom}
+use Rattle.lowering.specs.LoweringStepLaws.{lowered-none, lowered-more, lowered-all}
 use Rattle.lowering.proofs.lower.Statement.{statement}
 use Rattle.lowering.proofs.lower.Tie as tie
 
