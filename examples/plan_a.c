@@ -1,4 +1,4 @@
-/* Plans document 01's case a and prints the plan as the program `plan` does.
+/* Lists the pairs of document 01's case a, chooses the plan of the last one, and prints both as the program `plan` does.
  *
  *    cc -I include examples/plan_a.c target/staticlib/libcapi.a -o plan_a && ./plan_a
  */
@@ -35,12 +35,16 @@ int main(void) {
     joshkamber_windows_read read = joshkamber_read_windows(text, length);
     if (refused(read.cause))
         return 1;
-    joshkamber_planning plan = joshkamber_plan_windows(read.sheet, pairs, sizeof pairs / sizeof *pairs, train_of_order, sizeof train_of_order,
-                                                       times, sizeof times / sizeof *times);
-    if (refused(plan.cause))
+    joshkamber_listing list = joshkamber_list_windows(read.sheet, pairs, sizeof pairs / sizeof *pairs);
+    if (refused(list.cause))
+        return 1;
+    uint32_t last_arrival = (uint32_t)pairs[2 * (list.pairs - 1)];
+    joshkamber_choice choice = joshkamber_choose_windows(read.sheet, last_arrival, train_of_order, sizeof train_of_order, times,
+                                                         sizeof times / sizeof *times);
+    if (refused(choice.cause))
         return 1;
 
-    for (size_t k = 0; k < plan.pairs; k++)
+    for (size_t k = 0; k < list.pairs; k++)
         printf("P,%" PRId64 ",%" PRId64 "\n", pairs[2 * k], pairs[2 * k + 1]);
     for (size_t i = 0; i < read.sheet.train_count; i++)
         printf("D,%zu,%" PRIu32 ",%" PRIu32 "\n", i + 1, times[2 * i], times[2 * i + 1]);
@@ -48,6 +52,6 @@ int main(void) {
         joshkamber_name_place name = joshkamber_name_in_windows(text, length, j + 1);
         printf("L,%.*s,%u\n", (int)name.length, case_a + name.start, train_of_order[j]);
     }
-    printf("R,%zu\n", plan.rounds);
+    printf("R,%zu\n", list.rounds);
     return 0;
 }

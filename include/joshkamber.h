@@ -23,11 +23,12 @@ enum {
 
 /* Why an input is refused; number 0: it is not.
  *
- *    1  a line of no known form, or no final byte 10      6  windows, departures or arrivals out of order
- *    2  a value outside its range                         7  the capacities do not add up to the number of orders
- *    3  a kind of line earlier than the line above        8  there is no schedule
- *    4  one more of a kind than allowed                   9  round limit
- *    5  a kind is missing                                10  a lent area is too short
+ *    1  a line of no known form, or no final byte 10      7  the capacities do not add up to the number of orders
+ *    2  a value outside its range                         8  there is no schedule
+ *    3  a kind of line earlier than the line above        9  round limit
+ *    4  one more of a kind than allowed                  10  a lent area is too short
+ *    5  a kind is missing                                11  the wished arrival is before the first listed one
+ *    6  windows, departures or arrivals out of order
  *
  * `returned` is the line, from 1, where a reading call refuses with 1, 2, 3, 4 or 6, and else 0. */
 typedef struct {
@@ -80,12 +81,19 @@ typedef struct {
     size_t length;
 } joshkamber_name_place;
 
-/* What planning gives: how many pairs are listed and how many rounds were made, or the cause beside 0 and 0. */
+/* What listing gives: how many pairs are listed and how many rounds were made, or the cause beside 0 and 0. */
 typedef struct {
     joshkamber_cause cause;
     size_t pairs;
     size_t rounds;
-} joshkamber_planning;
+} joshkamber_listing;
+
+/* What choosing gives: last arrival and worst weighted lateness of the chosen pair, or the cause beside 0 and 0. */
+typedef struct {
+    joshkamber_cause cause;
+    uint32_t last;
+    int64_t worst;
+} joshkamber_choice;
 
 /* Reads a text. Refusals 1 to 7. */
 joshkamber_windows_read joshkamber_read_windows(const uint8_t *text, size_t length);
@@ -95,16 +103,26 @@ joshkamber_timetable_read joshkamber_read_timetable(const uint8_t *text, size_t 
 joshkamber_name_place joshkamber_name_in_windows(const uint8_t *text, size_t length, size_t order);
 joshkamber_name_place joshkamber_name_in_timetable(const uint8_t *text, size_t length, size_t order);
 
-/* Plans a sheet of n orders and q trains, and tests it first: refusals 2 and 4 to 10. The lent areas, with their lengths in elements:
+/* Lists the pairs of a sheet of n orders and q trains, and tests the sheet first: refusals 2 and 4 to 10. The lent area, with its length in
+ * elements:
  *
  *    pairs            at least 2 n q    last arrival and worst weighted lateness of each listed pair, by rising arrival
- *    train_of_order   at least n        the train, from 1, of each order in the plan of the last pair
- *    times            at least 2 q      departure and arrival of each train in that plan
  *
- * Only the front of each is written (2 times the listed pairs, n, 2 q elements), and nothing where the call refuses. */
-joshkamber_planning joshkamber_plan_windows(joshkamber_window_sheet sheet, int64_t *pairs, size_t pairs_length, uint8_t *train_of_order,
+ * Only its front is written (2 elements for each listed pair), and nothing where the call refuses. */
+joshkamber_listing joshkamber_list_windows(joshkamber_window_sheet sheet, int64_t *pairs, size_t pairs_length);
+joshkamber_listing joshkamber_list_timetable(joshkamber_timetable_sheet sheet, int64_t *pairs, size_t pairs_length);
+
+/* Chooses the last listed pair that is not later than the wished arrival, and gives its plan; the wish may be any number. Where it is the arrival
+ * of a listed pair, that very pair is chosen. No schedule that arrives by the wish has a smaller worst lateness. Tests as listing does, and last
+ * that the first listed pair is not later than the wish: refusals 2 and 4 to 11. The lent areas, with their lengths in elements:
+ *
+ *    train_of_order   at least n        the train, from 1, of each order
+ *    times            at least 2 q      departure and arrival of each train
+ *
+ * Only the front of each is written (n and 2 q elements), and nothing where the call refuses. */
+joshkamber_choice joshkamber_choose_windows(joshkamber_window_sheet sheet, uint32_t wish, uint8_t *train_of_order,
                                             size_t train_of_order_length, uint32_t *times, size_t times_length);
-joshkamber_planning joshkamber_plan_timetable(joshkamber_timetable_sheet sheet, int64_t *pairs, size_t pairs_length, uint8_t *train_of_order,
+joshkamber_choice joshkamber_choose_timetable(joshkamber_timetable_sheet sheet, uint32_t wish, uint8_t *train_of_order,
                                               size_t train_of_order_length, uint32_t *times, size_t times_length);
 
 #ifdef __cplusplus

@@ -1,6 +1,6 @@
 #!/bin/sh
 # The tests in Rust and C. First the independent package native/, which needs no static library; then, over the static library, the package
-# binding/, the C example, and a short run of the benchmark.
+# binding/, the C examples, and a short run of the benchmark.
 # The last line counts them all; the exit status is 0 only if none failed.
 set -u
 cd "$(dirname "$0")/.." || exit 2
@@ -68,15 +68,16 @@ library() {
     rt staticlib capi >"$work/staticlib" 2>&1 && [ -f "$library" ] || { tail -n 20 "$work/staticlib"; return 1; }
 }
 
+# c_example NAME: the C program prints what stands beside it
 c_example() {
-    cc -std=c99 -Wall -Wextra -Werror -pedantic -I include examples/plan_a.c "$library" -o "$work/plan_a" &&
-        "$work/plan_a" >"$work/plan_a.out" &&
-        cmp "$work/plan_a.out" examples/plan_a.expected
+    cc -std=c99 -Wall -Wextra -Werror -pedantic -I include "examples/$1.c" "$library" -o "$work/$1" &&
+        "$work/$1" >"$work/$1.out" &&
+        cmp "$work/$1.out" "examples/$1.expected"
 }
 
-# every stored hard sheet is timed, both planners agree on pairs and rounds, and ours takes at most 1.5 times as long on each
+# every stored hard sheet is timed, in listing and in choosing; both planners agree on pairs and rounds, and ours takes at most 1.5 times as long
 benchmark() {
-    (cd binding && cargo run -q -j1 --release --offline --bin bench -- 5) >"$work/bench" 2>&1
+    (cd binding && cargo run -q -j1 --release --offline --bin bench -- 3) >"$work/bench" 2>&1
     status=$?
     cat "$work/bench"
     [ "$status" -eq 0 ] && tail -n 1 "$work/bench" | grep -q '^bench: .* of [1-9][0-9]* ratios at most 1.5'
@@ -85,7 +86,8 @@ benchmark() {
 package native
 one "static library" library
 package binding
-one "C example" c_example
+one "C example: plan" c_example plan_a
+one "C example: choose" c_example choose_a
 one "benchmark" benchmark
 
 echo "$passed passed, $failed failed"

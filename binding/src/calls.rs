@@ -67,10 +67,19 @@ pub struct NamePlace {
 /// How many pairs are listed and how many rounds were made, or the cause beside 0 and 0.
 #[repr(C)]
 #[derive(Clone, Copy, Debug, PartialEq, Eq)]
-pub struct Planning {
+pub struct Listing {
     pub cause: Cause,
     pub pairs: usize,
     pub rounds: usize,
+}
+
+/// Last arrival and worst weighted lateness of the chosen pair, or the cause beside 0 and 0.
+#[repr(C)]
+#[derive(Clone, Copy, Debug, PartialEq, Eq)]
+pub struct Choice {
+    pub cause: Cause,
+    pub last: u32,
+    pub worst: i64,
 }
 
 // A slice passes as a pointer, then a length.
@@ -80,14 +89,14 @@ extern "C" {
     fn joshkamber_read_timetable(text: *const u8, length: usize) -> TimetableRead;
     fn joshkamber_name_in_windows(text: *const u8, length: usize, order: usize) -> NamePlace;
     fn joshkamber_name_in_timetable(text: *const u8, length: usize, order: usize) -> NamePlace;
-    fn joshkamber_plan_windows(
-        sheet: WindowSheet, pairs: *mut i64, pairs_length: usize, train_of_order: *mut u8, train_of_order_length: usize,
-        times: *mut u32, times_length: usize,
-    ) -> Planning;
-    fn joshkamber_plan_timetable(
-        sheet: TimetableSheet, pairs: *mut i64, pairs_length: usize, train_of_order: *mut u8, train_of_order_length: usize,
-        times: *mut u32, times_length: usize,
-    ) -> Planning;
+    fn joshkamber_list_windows(sheet: WindowSheet, pairs: *mut i64, pairs_length: usize) -> Listing;
+    fn joshkamber_list_timetable(sheet: TimetableSheet, pairs: *mut i64, pairs_length: usize) -> Listing;
+    fn joshkamber_choose_windows(
+        sheet: WindowSheet, wish: u32, train_of_order: *mut u8, train_of_order_length: usize, times: *mut u32, times_length: usize,
+    ) -> Choice;
+    fn joshkamber_choose_timetable(
+        sheet: TimetableSheet, wish: u32, train_of_order: *mut u8, train_of_order_length: usize, times: *mut u32, times_length: usize,
+    ) -> Choice;
 }
 
 /// Reads a text of the window form.
@@ -114,15 +123,28 @@ pub fn name_in_timetable(text: &[u8], order: usize) -> NamePlace {
     unsafe { joshkamber_name_in_timetable(text.as_ptr(), text.len(), order) }
 }
 
-/// Plans a sheet of the window form. For n orders and q trains the areas have at least 2 n q, n and 2 q elements.
-pub fn plan_windows(sheet: &WindowSheet, pairs: &mut [i64], train_of_order: &mut [u8], times: &mut [u32]) -> Planning {
-    // SAFETY: the three pointers are not null, valid for reads and writes of as many elements, and lent for this call alone, so they do
-    // not overlap. The call writes in no other memory, keeps nothing, and tests the sheet and the lengths itself.
+/// Lists the pairs of a sheet of the window form. For n orders and q trains the area has at least 2 n q elements.
+pub fn list_windows(sheet: &WindowSheet, pairs: &mut [i64]) -> Listing {
+    // SAFETY: the pointer is not null, valid for reads and writes of as many elements, and lent for this call alone. The call writes in no
+    // other memory, keeps nothing, and tests the sheet and the length itself.
+    unsafe { joshkamber_list_windows(*sheet, pairs.as_mut_ptr(), pairs.len()) }
+}
+
+/// Lists the pairs of a sheet of the timetable form, with an area as for `list_windows`.
+pub fn list_timetable(sheet: &TimetableSheet, pairs: &mut [i64]) -> Listing {
+    // SAFETY: as in `list_windows`.
+    unsafe { joshkamber_list_timetable(*sheet, pairs.as_mut_ptr(), pairs.len()) }
+}
+
+/// Chooses the plan of the last listed pair that is not later than the wished arrival, on a sheet of the window form. For n orders and q
+/// trains the areas have at least n and 2 q elements.
+pub fn choose_windows(sheet: &WindowSheet, wish: u32, train_of_order: &mut [u8], times: &mut [u32]) -> Choice {
+    // SAFETY: the two pointers are not null, valid for reads and writes of as many elements, and lent for this call alone, so they do not
+    // overlap. The call writes in no other memory, keeps nothing, takes any wish, and tests the sheet and the lengths itself.
     unsafe {
-        joshkamber_plan_windows(
+        joshkamber_choose_windows(
             *sheet,
-            pairs.as_mut_ptr(),
-            pairs.len(),
+            wish,
             train_of_order.as_mut_ptr(),
             train_of_order.len(),
             times.as_mut_ptr(),
@@ -131,19 +153,13 @@ pub fn plan_windows(sheet: &WindowSheet, pairs: &mut [i64], train_of_order: &mut
     }
 }
 
-/// Plans a sheet of the timetable form, with areas as for `plan_windows`.
-pub fn plan_timetable(
-    sheet: &TimetableSheet,
-    pairs: &mut [i64],
-    train_of_order: &mut [u8],
-    times: &mut [u32],
-) -> Planning {
-    // SAFETY: as in `plan_windows`.
+/// The same on a sheet of the timetable form, with areas as for `choose_windows`.
+pub fn choose_timetable(sheet: &TimetableSheet, wish: u32, train_of_order: &mut [u8], times: &mut [u32]) -> Choice {
+    // SAFETY: as in `choose_windows`.
     unsafe {
-        joshkamber_plan_timetable(
+        joshkamber_choose_timetable(
             *sheet,
-            pairs.as_mut_ptr(),
-            pairs.len(),
+            wish,
             train_of_order.as_mut_ptr(),
             train_of_order.len(),
             times.as_mut_ptr(),

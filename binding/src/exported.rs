@@ -1,7 +1,8 @@
 //! Sheets as the exported calls take and give them, from and to the independent implementation's sheets.
 
-use crate::areas::Areas;
-use crate::calls::{plan_timetable, plan_windows, Planning, TimetableSheet, WindowSheet};
+use crate::areas::{PairsArea, PlanAreas};
+use crate::calls::{choose_timetable, choose_windows, list_timetable, list_windows};
+use crate::calls::{Choice, Listing, TimetableSheet, WindowSheet};
 use native::sheet::{Orders, Paths, Sheet, Timetable, Windows};
 
 /// Stands behind the elements of a column, where it is not read. No sheet may have it.
@@ -14,11 +15,18 @@ pub enum ExportedSheet {
 }
 
 impl ExportedSheet {
-    pub fn plan_in(&self, areas: &mut Areas) -> Planning {
-        let Areas { pairs, train_of_order, times } = areas;
+    pub fn list_in(&self, pairs: &mut PairsArea) -> Listing {
         match self {
-            ExportedSheet::Windows(sheet) => plan_windows(sheet, pairs.lent(), train_of_order.lent(), times.lent()),
-            ExportedSheet::Timetable(sheet) => plan_timetable(sheet, pairs.lent(), train_of_order.lent(), times.lent()),
+            ExportedSheet::Windows(sheet) => list_windows(sheet, pairs.lent()),
+            ExportedSheet::Timetable(sheet) => list_timetable(sheet, pairs.lent()),
+        }
+    }
+
+    pub fn choose_in(&self, wish: u32, areas: &mut PlanAreas) -> Choice {
+        let (train_of_order, times) = (areas.train_of_order.lent(), areas.times.lent());
+        match self {
+            ExportedSheet::Windows(sheet) => choose_windows(sheet, wish, train_of_order, times),
+            ExportedSheet::Timetable(sheet) => choose_timetable(sheet, wish, train_of_order, times),
         }
     }
 }

@@ -1,16 +1,16 @@
 //! The product as an implementation beside the independent one: the same calls, with the same types.
 
-use crate::areas::Areas;
-use crate::calls::{name_in_timetable, name_in_windows, read_timetable, read_windows, Cause, NamePlace, Planning};
+use crate::areas::{PairsArea, PlanAreas};
+use crate::calls::{name_in_timetable, name_in_windows, read_timetable, read_windows, Cause, NamePlace};
 use crate::exported::ExportedSheet;
-use native::plan::{Pair, Plan, Times};
+use native::plan::{Entry, Listing, Pair, Plan, Times};
 use native::print::Implementation;
 use native::reader::Reading;
 use native::refusal::Refusal;
 use native::sheet::{Form, Sheet};
 use std::ops::Range;
 
-pub const PRODUCT: Implementation = Implementation { read, plan };
+pub const PRODUCT: Implementation = Implementation { read, list, choose };
 
 fn passed(cause: Cause) -> Result<(), Refusal> {
     match cause.number {
@@ -45,25 +45,28 @@ fn read(text: &[u8], form: Form) -> Result<Reading, Refusal> {
     Ok(Reading { sheet, names })
 }
 
-fn plan(sheet: &Sheet) -> Result<Plan, Refusal> {
+fn list(sheet: &Sheet) -> Result<Listing, Refusal> {
     let (n, q) = sheet.size();
-    let mut areas = Areas::new(Areas::least(n, q));
-    let planning = ExportedSheet::from(sheet).plan_in(&mut areas);
-    passed(planning.cause)?;
-    Ok(plan_from(planning, n, q, &areas))
-}
-
-/// The plan that the first elements of the areas hold.
-pub fn plan_from(planning: Planning, n: usize, q: usize, areas: &Areas) -> Plan {
+    let mut area = PairsArea::of_length(PairsArea::least(n, q));
+    let listing = ExportedSheet::from(sheet).list_in(&mut area);
+    passed(listing.cause)?;
     let pair = |numbers: &[i64]| {
         let arrival = u32::try_from(numbers[0]).expect("an arrival is a time of day");
         Pair { arrival, lateness: numbers[1] }
     };
+    let pairs = area.first(2 * listing.pairs).chunks(2).map(pair).collect();
+    Ok(Listing { pairs, rounds: listing.rounds })
+}
+
+fn choose(sheet: &Sheet, wish: u32) -> Result<Entry, Refusal> {
+    let (n, q) = sheet.size();
+    let mut areas = PlanAreas::of_lengths(PlanAreas::least(n, q));
+    let choice = ExportedSheet::from(sheet).choose_in(wish, &mut areas);
+    passed(choice.cause)?;
     let times = |numbers: &[u32]| Times { departure: numbers[0], arrival: numbers[1] };
-    Plan {
-        pairs: areas.pairs.first(2 * planning.pairs).chunks(2).map(pair).collect(),
+    let plan = Plan {
         train_of_order: areas.train_of_order.first(n).to_vec(),
         times: areas.times.first(2 * q).chunks(2).map(times).collect(),
-        rounds: planning.rounds,
-    }
+    };
+    Ok(Entry { pair: Pair { arrival: choice.last, lateness: choice.worst }, plan })
 }

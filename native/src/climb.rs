@@ -1,7 +1,7 @@
 //! A climb by small changes of the orders towards a sheet with many rounds.
 
 use crate::limits::LAST_INSTANT;
-use crate::planner::plan;
+use crate::planner::list;
 use crate::rng::Rng;
 use crate::sheet::{Orders, Sheet};
 
@@ -9,7 +9,7 @@ use crate::sheet::{Orders, Sheet};
 const MOST_CHANGES: u32 = 4;
 
 pub fn climb(rng: &mut Rng, mut sheet: Sheet, steps: u32) -> Sheet {
-    let rounds = |sheet: &Sheet| plan(sheet).map_or(0, |plan| plan.rounds);
+    let rounds = |sheet: &Sheet| list(sheet).map_or(0, |listing| listing.rounds);
     let mut most = rounds(&sheet);
     for _ in 0..steps {
         let mut changed = sheet.clone();

@@ -1,7 +1,8 @@
-//! An independent reader and planner, written from document 01 alone, and what tests it: the rounds word for word, a listing of every
+//! An independent reader and planner, written from documents 01 and 02 alone, and what tests it: the rounds word for word, a listing of every
 //! loading, drawn sheets and damaged texts.
 
 pub mod admission;
+pub mod agreement;
 pub mod cases;
 pub mod climb;
 pub mod damage;
@@ -17,7 +18,9 @@ pub mod reader;
 pub mod refusal;
 pub mod rng;
 pub mod schedule;
+pub mod search;
 pub mod sheet;
 pub mod stored;
 pub mod trace;
+pub mod wishes;
 pub mod write;

@@ -1,4 +1,4 @@
-//! Brute force for small sheets: every loading, and the best list of pairs.
+//! Brute force for small sheets: every loading, the best list of pairs, and the best pair in time.
 
 use crate::limits::MOST_TRAINS;
 use crate::plan::Pair;
@@ -6,33 +6,56 @@ use crate::sheet::{Orders, Paths, Sheet, Windows};
 use std::collections::BTreeMap;
 
 /// For each last arrival the least worst lateness seen.
-type Seen = BTreeMap<u32, i64>;
+#[derive(Default)]
+pub struct Seen(BTreeMap<u32, i64>);
+
+impl Seen {
+    fn pairs(&self) -> impl Iterator<Item = Pair> + '_ {
+        self.0.iter().map(|(&arrival, &lateness)| Pair { arrival, lateness })
+    }
+
+    /// The pairs that no other pair beats or equals in both; none if there is no schedule.
+    pub fn front(&self) -> Vec<Pair> {
+        let mut front: Vec<Pair> = Vec::new();
+        for pair in self.pairs() {
+            if front.last().is_none_or(|last| pair.lateness < last.lateness) {
+                front.push(pair);
+            }
+        }
+        front
+    }
+
+    /// Of the pairs that are not later than the wish, the one with the least worst lateness, and of those the earliest.
+    pub fn best_by(&self, wish: u32) -> Option<Pair> {
+        self.pairs().filter(|pair| pair.arrival <= wish).min_by_key(|pair| (pair.lateness, pair.arrival))
+    }
+}
 
 /// One number a train; behind the last train 0.
 type Row = [u32; MOST_TRAINS];
 
-/// The front over all loadings with earliest departures; empty if there is no schedule.
-pub fn front(sheet: &Sheet) -> Vec<Pair> {
-    let mut seen = Seen::new();
+/// All loadings with earliest departures.
+pub fn seen(sheet: &Sheet) -> Seen {
+    let mut seen = Seen::default();
     each_loading(sheet, &mut |train| {
         if let Some(arrival) = earliest_arrivals(sheet, &greatest_releases(&sheet.orders, train)) {
             see(&mut seen, sheet, train, &arrival);
         }
     });
-    front_of(seen)
+    seen
 }
 
-/// The front over all loadings and all departures; by timetable there are no others.
-pub fn front_of_all_departures(sheet: &Sheet) -> Vec<Pair> {
-    let Paths::Windows(windows) = &sheet.paths else { return front(sheet) };
-    let mut seen = Seen::new();
+/// All loadings and all departures; by timetable there are no others.
+pub fn seen_with_all_departures(sheet: &Sheet) -> Seen {
+    let Paths::Windows(windows) = &sheet.paths else { return seen(sheet) };
+    let mut seen = Seen::default();
     each_loading(sheet, &mut |train| {
         let greatest = greatest_releases(&sheet.orders, train);
         each_departure(windows, &greatest, &mut Vec::new(), &mut |departure| {
             see(&mut seen, sheet, train, &arrivals(windows, departure));
         });
     });
-    front_of(seen)
+    seen
 }
 
 /// Calls `visit` with the train (from 0) of each order, for every loading.
@@ -119,19 +142,8 @@ fn arrivals(windows: &Windows, departure: &[u32]) -> Row {
     arrival
 }
 
-fn see(seen: &mut Seen, sheet: &Sheet, train: &[usize], arrival: &Row) {
+fn see(Seen(least): &mut Seen, sheet: &Sheet, train: &[usize], arrival: &Row) {
     let (n, q) = sheet.size();
     let worst = (0..n).map(|j| sheet.orders.lateness(j, arrival[train[j]])).max().expect("an order");
-    seen.entry(arrival[q - 1]).and_modify(|least| *least = worst.min(*least)).or_insert(worst);
-}
-
-/// The pairs that no other pair beats or equals in both.
-fn front_of(seen: Seen) -> Vec<Pair> {
-    let mut front: Vec<Pair> = Vec::new();
-    for (arrival, lateness) in seen {
-        if front.last().is_none_or(|last| lateness < last.lateness) {
-            front.push(Pair { arrival, lateness });
-        }
-    }
-    front
+    least.entry(arrival[q - 1]).and_modify(|least| *least = worst.min(*least)).or_insert(worst);
 }

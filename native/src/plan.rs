@@ -1,4 +1,4 @@
-//! What planning gives.
+//! What listing and choosing give.
 
 /// Last arrival and worst weighted lateness.
 #[derive(Clone, Copy, Debug, Default, PartialEq, Eq)]
@@ -14,12 +14,23 @@ pub struct Times {
     pub arrival: u32,
 }
 
-/// Every listed pair by rising arrival, and the schedule of the last one.
 #[derive(Clone, Debug, PartialEq, Eq)]
 pub struct Plan {
-    pub pairs: Vec<Pair>,
     /// The train, from 1, of each order.
     pub train_of_order: Vec<u8>,
     pub times: Vec<Times>,
+}
+
+/// A pair with its plan.
+#[derive(Clone, Debug, PartialEq, Eq)]
+pub struct Entry {
+    pub pair: Pair,
+    pub plan: Plan,
+}
+
+/// Every listed pair by rising arrival, and how many rounds were made.
+#[derive(Clone, Debug, PartialEq, Eq)]
+pub struct Listing {
+    pub pairs: Vec<Pair>,
     pub rounds: usize,
 }

@@ -1,6 +1,6 @@
 //! The printed plan, from a sheet's text.
 
-use crate::plan::Plan;
+use crate::plan::{Entry, Listing, Plan};
 use crate::reader::Reading;
 use crate::refusal::Refusal;
 use crate::sheet::{Form, Sheet};
@@ -14,10 +14,12 @@ pub const LONGEST_TEXT: usize = 65_536;
 /// The calls that printing takes.
 pub struct Implementation {
     pub read: fn(&[u8], Form) -> Result<Reading, Refusal>,
-    pub plan: fn(&Sheet) -> Result<Plan, Refusal>,
+    pub list: fn(&Sheet) -> Result<Listing, Refusal>,
+    pub choose: fn(&Sheet, u32) -> Result<Entry, Refusal>,
 }
 
-pub const INDEPENDENT: Implementation = Implementation { read: reader::read, plan: planner::plan };
+pub const INDEPENDENT: Implementation =
+    Implementation { read: reader::read, list: planner::list, choose: planner::choose };
 
 /// What the program `plan` prints for this standard input, by the independent implementation.
 pub fn print(text: &[u8]) -> String {
@@ -27,17 +29,21 @@ pub fn print(text: &[u8]) -> String {
 /// The same, by either implementation.
 pub fn print_by(implementation: &Implementation, text: &[u8]) -> String {
     let text = &text[..text.len().min(LONGEST_TEXT)];
-    let answer = (implementation.read)(text, Form::of(text))
-        .and_then(|reading| Ok(((implementation.plan)(&reading.sheet)?, reading.names)));
-    match answer {
-        Ok((plan, names)) => plan_lines(&plan, text, &names),
-        Err(Refusal { number, returned }) => format!("E,{number},{returned}\n"),
-    }
+    lines_by(implementation, text).unwrap_or_else(|Refusal { number, returned }| format!("E,{number},{returned}\n"))
 }
 
-fn plan_lines(plan: &Plan, text: &[u8], names: &[Range<usize>]) -> String {
+/// The plan is the one of the last listed arrival.
+fn lines_by(implementation: &Implementation, text: &[u8]) -> Result<String, Refusal> {
+    let Reading { sheet, names } = (implementation.read)(text, Form::of(text))?;
+    let listing = (implementation.list)(&sheet)?;
+    let wish = listing.pairs.last().expect("a listed pair").arrival;
+    let chosen = (implementation.choose)(&sheet, wish)?;
+    Ok(plan_lines(&listing, &chosen.plan, text, &names))
+}
+
+fn plan_lines(listing: &Listing, plan: &Plan, text: &[u8], names: &[Range<usize>]) -> String {
     let mut out = String::new();
-    for pair in &plan.pairs {
+    for pair in &listing.pairs {
         writeln!(out, "P,{},{}", pair.arrival, pair.lateness).unwrap();
     }
     for (i, times) in plan.times.iter().enumerate() {
@@ -47,6 +53,6 @@ fn plan_lines(plan: &Plan, text: &[u8], names: &[Range<usize>]) -> String {
         let name = std::str::from_utf8(&text[name.clone()]).expect("names are ASCII");
         writeln!(out, "L,{name},{train}").unwrap();
     }
-    writeln!(out, "R,{}", plan.rounds).unwrap();
+    writeln!(out, "R,{}", listing.rounds).unwrap();
     out
 }

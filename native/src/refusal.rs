@@ -1,4 +1,4 @@
-//! Document 01's refusals, by their numbers.
+//! The refusals of documents 01 and 02, by their numbers.
 
 pub const MALFORMED: usize = 1;
 pub const OUT_OF_RANGE: usize = 2;
@@ -10,9 +10,10 @@ pub const PLACES_DIFFER: usize = 7;
 pub const NO_SCHEDULE: usize = 8;
 pub const ROUND_LIMIT: usize = 9;
 pub const AREA_TOO_SHORT: usize = 10;
+pub const WISH_TOO_EARLY: usize = 11;
 
 /// How many numbers there are, with 0 for "not refused".
-pub const NUMBER_COUNT: usize = 11;
+pub const NUMBER_COUNT: usize = 12;
 
 #[derive(Clone, Copy, Debug, PartialEq, Eq)]
 pub struct Refusal {

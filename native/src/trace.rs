@@ -1,7 +1,7 @@
 //! The rounds written down word for word, slowly, with what each round shows.
 //! Only for tests and for finding sheets that show something.
 
-use crate::plan::{Pair, Times};
+use crate::plan::{Entry, Pair, Plan, Times};
 use crate::sheet::{Paths, Sheet, Timetable, Windows};
 
 #[derive(Clone, Copy, Debug, PartialEq, Eq)]
@@ -19,10 +19,8 @@ pub enum Outcome {
 #[derive(Clone, Debug, Default, PartialEq, Eq)]
 pub struct Trace {
     pub outcomes: Vec<Outcome>,
-    pub pairs: Vec<Pair>,
-    /// The train, from 1, of each order.
-    pub train_of_order: Vec<u8>,
-    pub times: Vec<Times>,
+    /// The listed pairs with their plans.
+    pub entries: Vec<Entry>,
 }
 
 pub fn trace(sheet: &Sheet) -> Trace {
@@ -41,7 +39,7 @@ pub fn trace(sheet: &Sheet) -> Trace {
             (0..n).map(|j| sheet.orders.lateness(j, times[usize::from(train[j]) - 1].arrival)).max().expect("an order");
         if limit.is_none_or(|y| worst < y) {
             limit = Some(worst);
-            record(&mut trace, worst, train, &times);
+            record(&mut trace, worst, Plan { train_of_order: train, times: times.clone() });
         } else {
             trace.outcomes.push(Outcome::Nothing);
         }
@@ -111,16 +109,14 @@ fn fixed_times(timetable: &Timetable, greatest: &[u32]) -> Option<Vec<Times>> {
 }
 
 /// Step 3, where the worst lateness is below the limit.
-fn record(trace: &mut Trace, worst: i64, train: Vec<u8>, times: &[Times]) {
-    let pair = Pair { arrival: times.last().expect("a train").arrival, lateness: worst };
-    let replaces = trace.pairs.last().is_some_and(|last| last.arrival == pair.arrival);
+fn record(trace: &mut Trace, worst: i64, plan: Plan) {
+    let pair = Pair { arrival: plan.times.last().expect("a train").arrival, lateness: worst };
+    let replaces = trace.entries.last().is_some_and(|last| last.pair.arrival == pair.arrival);
     if replaces {
-        trace.pairs.pop();
+        trace.entries.pop();
     }
     trace.outcomes.push(if replaces { Outcome::Replaced } else { Outcome::Listed });
-    trace.pairs.push(pair);
-    trace.train_of_order = train;
-    trace.times = times.to_vec();
+    trace.entries.push(Entry { pair, plan });
 }
 
 /// Step 5.

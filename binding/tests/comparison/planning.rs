@@ -1,67 +1,57 @@
+use crate::chosen::check_choosing;
+use crate::listed::check_listing;
 use crate::spoil::spoil;
-use binding::areas::{Areas, Lengths};
-use binding::calls::{Cause, Planning};
-use binding::exported::ExportedSheet;
-use binding::product::plan_from;
+use binding::areas::{PairsArea, PlanAreas};
+use native::admission::admit;
 use native::draw::{big, drawn_size, small};
 use native::ladder::{ladder_timetable, ladder_windows, Ladder};
-use native::limits::{MOST_ORDERS, MOST_TRAINS};
-use native::plan::Plan;
-use native::planner::plan;
+use native::plan::Listing;
+use native::reader::read;
 use native::refusal::*;
 use native::rng::Rng;
-use native::sheet::{Sheet, FORMS};
+use native::search::{search, Recorded};
+use native::sheet::{Form, Sheet, FORMS};
+use native::stored::stored_sheets;
+use native::wishes::wishes;
 
-/// The product refuses thus and leaves areas of these lengths as found.
-fn check_refused(sheet: &Sheet, lengths: Lengths, number: usize) {
-    let mut areas = Areas::new(lengths);
-    let refused = Planning { cause: Cause { number, returned: 0 }, pairs: 0, rounds: 0 };
-    assert_eq!(ExportedSheet::from(sheet).plan_in(&mut areas), refused, "{lengths:?} {sheet:?}");
-    assert!(areas.guarded_but([0; 3]), "{lengths:?} {sheet:?}");
-}
+/// At least so many stored sheets are read.
+const LEAST_READ: usize = 80;
 
-/// The product gives this plan in the first elements of areas of these lengths and leaves the rest as found.
-fn check_planned(sheet: &Sheet, lengths: Lengths, plan: &Plan) {
-    let (n, q) = sheet.size();
-    let mut areas = Areas::new(lengths);
-    let planning = ExportedSheet::from(sheet).plan_in(&mut areas);
-    assert_eq!(planning.cause, Cause { number: 0, returned: 0 }, "{sheet:?}");
-    assert_eq!(planning.pairs, plan.pairs.len(), "{sheet:?}");
-    assert_eq!(plan_from(planning, n, q, &areas), *plan, "{sheet:?}");
-    assert!(areas.guarded_but([2 * planning.pairs, n, 2 * q]), "{lengths:?} {sheet:?}");
-}
-
-/// The product plans as the independent planner does, with areas that are long enough, to spare, or too short.
-/// Gives the number of the refusal, or 0.
-fn check_planning(sheet: &Sheet, rng: &mut Rng) -> usize {
-    let (n, q) = sheet.size();
-    let least = Areas::least(n.min(MOST_ORDERS), q.min(MOST_TRAINS));
-    let spare = least.map(|length| length + rng.index(4));
-    let answer = plan(sheet).map_err(|refusal| refusal.number);
-    match &answer {
-        Ok(plan) => check_planned(sheet, spare, plan),
-        Err(number) => check_refused(sheet, spare, *number),
+/// The product lists and chooses as the independent planner does, whose rounds are made once for all wishes.
+/// Gives the number of each refusal, or 0: of listing, then of choosing by each wish.
+fn check_planning(sheet: &Sheet, rng: &mut Rng) -> Vec<usize> {
+    let recorded = admit(sheet).and_then(|()| search(sheet));
+    let recorded = recorded.as_ref().map_err(|&refusal| refusal);
+    let listed = recorded.map(listing_of);
+    check_listing(sheet, &listed, rng);
+    let mut met = vec![number_of(&listed)];
+    for wish in wishes(&listed.map_or(Vec::new(), |listing| listing.pairs)) {
+        let chosen = recorded.and_then(|recorded| recorded.chosen(wish));
+        check_choosing(sheet, wish, &chosen, rng);
+        met.push(number_of(&chosen));
     }
-    let number = answer.err().unwrap_or(0);
-    // Refusal 10 comes after those of the sheet, before 8.
-    let number_if_short = if [0, NO_SCHEDULE].contains(&number) { AREA_TOO_SHORT } else { number };
-    let mut short = spare;
-    let area = rng.index(3);
-    short[area] = least[area].saturating_sub(if rng.one_in(2) { 1 } else { rng.index(3) + 1 });
-    check_refused(sheet, short, number_if_short);
-    check_refused(sheet, [0; 3], number_if_short);
-    number
+    met
+}
+
+fn listing_of(Recorded { entries, rounds }: &Recorded) -> Listing {
+    Listing { pairs: entries.iter().map(|entry| entry.pair).collect(), rounds: *rounds }
+}
+
+fn number_of<T>(answer: &Result<T, Refusal>) -> usize {
+    answer.as_ref().err().map_or(0, |refusal| refusal.number)
 }
 
 #[test]
 fn guards_tell_what_was_written() {
-    let mut areas = Areas::new([4, 2, 4]);
-    assert!(areas.guarded_but([0; 3]));
-    areas.pairs.lent()[1] = 0;
-    areas.train_of_order.lent()[0] = 1;
-    areas.times.lent()[3] = 0;
-    assert!(areas.guarded_but([2, 1, 4]));
-    assert!(!areas.guarded_but([1, 1, 4]) && !areas.guarded_but([2, 0, 4]) && !areas.guarded_but([2, 1, 3]));
+    let mut pairs = PairsArea::of_length(4);
+    assert!(pairs.guarded_but(0));
+    pairs.lent()[1] = 0;
+    assert!(pairs.guarded_but(2) && !pairs.guarded_but(1));
+    let PlanAreas { mut train_of_order, mut times } = PlanAreas::of_lengths([2, 4]);
+    train_of_order.lent()[0] = 1;
+    times.lent()[3] = 0;
+    assert!(train_of_order.guarded_but(1) && !train_of_order.guarded_but(0));
+    assert!(times.guarded_but(4) && !times.guarded_but(3));
 }
 
 #[test]
@@ -85,9 +75,13 @@ fn ladders() {
     let mut rng = Rng::new(102);
     for (release, stir) in [(0, 0), (9, 0), (300, 3), (3_000, 50)] {
         let ladder = Ladder { release, stir, shuffled: stir > 0 };
-        let sheets = [ladder_windows(&mut rng, 120, 24, ladder, release), ladder_timetable(&mut rng, 120, 24, ladder)];
+        let sheets = [
+            ladder_windows(&mut rng, 120, 24, ladder, release),
+            ladder_windows(&mut rng, 120, 24, ladder, 0),
+            ladder_timetable(&mut rng, 120, 24, ladder),
+        ];
         for sheet in sheets {
-            assert_eq!(check_planning(&sheet, &mut rng), 0, "a ladder has a plan");
+            assert_eq!(check_planning(&sheet, &mut rng)[0], 0, "a ladder has a plan");
         }
     }
 }
@@ -101,8 +95,17 @@ fn spoiled_sheets() {
         for _ in 0..rng.within(1, 3) {
             spoil(&mut rng, &mut sheet);
         }
-        met[check_planning(&sheet, &mut rng)] += 1;
+        check_planning(&sheet, &mut rng).iter().for_each(|&number| met[number] += 1);
     }
-    let possible = [0, OUT_OF_RANGE, TOO_MANY, KIND_MISSING, OUT_OF_ORDER, PLACES_DIFFER, NO_SCHEDULE];
+    let possible = [0, OUT_OF_RANGE, TOO_MANY, KIND_MISSING, OUT_OF_ORDER, PLACES_DIFFER, NO_SCHEDULE, WISH_TOO_EARLY];
     assert!(possible.iter().all(|&number| met[number] > 100), "{met:?}");
+}
+
+#[test]
+fn stored_sheets_agree() {
+    let mut rng = Rng::new(106);
+    let texts = stored_sheets().into_iter().map(|stored| stored.text);
+    let sheets: Vec<Sheet> = texts.filter_map(|text| Some(read(&text, Form::of(&text)).ok()?.sheet)).collect();
+    sheets.iter().for_each(|sheet| _ = check_planning(sheet, &mut rng));
+    assert!(sheets.len() >= LEAST_READ, "{} stored sheets", sheets.len());
 }

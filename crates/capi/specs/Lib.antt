@@ -1,2 +1,4 @@
 pub mod Exported
 pub mod ExportedLaws
+pub mod ExportedPlanning
+pub mod ExportedPlanningLaws

@@ -1,10 +1,11 @@
-// The calls for C and Rust: for each form reading a text, the place of an order's name in it, and planning a sheet. Not exported are a name as a part of
-// the text, the tests of a sheet alone, and printing. The calls take and return numbers, slices (in C a pointer, then a length) and structs laid out as
-// in C, and ask nothing of their caller. include/joshkamber.h declares them.
+// The calls for C and Rust: for each form reading a text, the place of an order's name in it, listing the pairs of a sheet and choosing a plan. Not exported
+// are a name as a part of the text, the tests of a sheet alone, and printing. The calls take and return numbers, slices (in C a pointer, then a length) and
+// structs laid out as in C, and ask nothing of their caller. include/joshkamber.h declares them.
 use fields::NamePlace;
 use model::Admission;
+use model::ChoiceReply;
+use model::ListReply;
 use model::Refusal;
-use model::Reply;
 use model::TimetableSheet;
 use model::WindowSheet;
 ghost use mathlib.Core.Path.{_≡_};
@@ -13,7 +14,8 @@ ghost use Rattle.fields.specs.NamePlaces.{placeOf};
 ghost use Rattle.sheet.specs.OrderNames.{nameIn};
 ghost use Rattle.model.specs.declared.Form.the-variants.{Windows, Timetable};
 ghost use Rattle.rounds.specs.Told.{areas};
-ghost use Rattle.capi.specs.Exported.{causeOf, causeIn, windowsRead, timetableRead, ExportedReading, planningOf, ExportedPlanning};
+ghost use Rattle.capi.specs.Exported.{causeOf, causeIn, windowsRead, timetableRead, ExportedReading};
+ghost use Rattle.capi.specs.ExportedPlanning.{listingOf, ExportedListing, choiceOf, ExportedChoice};
 
 // Why an input is refused: document 01's number and returned value. 0 and 0 say that it is not.
 #[repr(C)]
@@ -36,12 +38,20 @@ pub struct TimetableRead {
     pub sheet: TimetableSheet,
 }
 
-// What planning a sheet gives: how many pairs are listed and how many rounds were made, or the cause beside 0 and 0.
+// What listing the pairs of a sheet gives: how many pairs are listed and how many rounds were made, or the cause beside 0 and 0.
 #[repr(C)]
-pub struct Planning {
+pub struct Listing {
     pub cause: Cause,
     pub pairs: usize,
     pub rounds: usize,
+}
+
+// What choosing a plan gives: the pair that was chosen, last arrival and worst weighted lateness, or the cause beside 0 and 0.
+#[repr(C)]
+pub struct Choice {
+    pub cause: Cause,
+    pub last: u32,
+    pub worst: i64,
 }
 
 fn cause_of(refusal: Refusal) -> Cause
@@ -67,11 +77,11 @@ fn cause_in(admission: Admission) -> Cause
     }
 }
 
-fn planning_of(reply: Reply) -> Planning
-    ensures { λ r. ⌜ r ≡ planningOf reply ⌝ }
+fn listing_of(reply: ListReply) -> Listing
+    ensures { λ r. ⌜ r ≡ listingOf reply ⌝ }
 {
     match reply {
-        Reply::Planned { pairs, rounds } => Planning {
+        ListReply::Listed { pairs, rounds } => Listing {
             cause: Cause {
                 number: 0,
                 returned: 0,
@@ -79,10 +89,30 @@ fn planning_of(reply: Reply) -> Planning
             pairs: pairs,
             rounds: rounds,
         },
-        Reply::Refused(refusal) => Planning {
+        ListReply::Refused(refusal) => Listing {
             cause: cause_of(refusal),
             pairs: 0,
             rounds: 0,
+        },
+    }
+}
+
+fn choice_of(reply: ChoiceReply) -> Choice
+    ensures { λ r. ⌜ r ≡ choiceOf reply ⌝ }
+{
+    match reply {
+        ChoiceReply::Chosen { last, worst } => Choice {
+            cause: Cause {
+                number: 0,
+                returned: 0,
+            },
+            last: last,
+            worst: worst,
+        },
+        ChoiceReply::Refused(refusal) => Choice {
+            cause: cause_of(refusal),
+            last: 0,
+            worst: 0,
         },
     }
 }
@@ -133,34 +163,50 @@ pub extern "C" fn joshkamber_name_in_timetable(text: &[u8], order: usize) -> Nam
     sheet::name_place_in_timetable(text, order)
 }
 
-// Plans a sheet of the window form.
+// Lists the pairs of a sheet of the window form.
 #[no_mangle]
-pub extern "C" fn joshkamber_plan_windows(
-    sheet: WindowSheet,
-    pairs: &mut [i64],
-    train_of_order: &mut [u8],
-    times: &mut [u32],
-) -> Planning
-    ensures { λ r. ⌜ ExportedPlanning (windowSheet sheet) r
-        (areas (now (pairs .exit)) (now («train_of_order» .exit)) (now (times .exit)))
-        (areas (now (pairs .entry)) (now («train_of_order» .entry)) (now (times .entry))) ⌝ }
+pub extern "C" fn joshkamber_list_windows(sheet: WindowSheet, pairs: &mut [i64]) -> Listing
+    ensures { λ r. ⌜ ExportedListing (windowSheet sheet) r (now (pairs .exit)) (now (pairs .entry)) ⌝ }
 {
-    let reply = planner::plan_windows(sheet, pairs, train_of_order, times);
-    planning_of(reply)
+    let reply = planner::listing::list_windows(sheet, pairs);
+    listing_of(reply)
 }
 
-// Plans a sheet of the timetable form.
+// Lists the pairs of a sheet of the timetable form.
 #[no_mangle]
-pub extern "C" fn joshkamber_plan_timetable(
-    sheet: TimetableSheet,
-    pairs: &mut [i64],
+pub extern "C" fn joshkamber_list_timetable(sheet: TimetableSheet, pairs: &mut [i64]) -> Listing
+    ensures { λ r. ⌜ ExportedListing (timetableSheet sheet) r (now (pairs .exit)) (now (pairs .entry)) ⌝ }
+{
+    let reply = planner::listing::list_timetable(sheet, pairs);
+    listing_of(reply)
+}
+
+// Chooses the plan of a sheet of the window form for a wished arrival.
+#[no_mangle]
+pub extern "C" fn joshkamber_choose_windows(
+    sheet: WindowSheet,
+    wish: u32,
     train_of_order: &mut [u8],
     times: &mut [u32],
-) -> Planning
-    ensures { λ r. ⌜ ExportedPlanning (timetableSheet sheet) r
-        (areas (now (pairs .exit)) (now («train_of_order» .exit)) (now (times .exit)))
-        (areas (now (pairs .entry)) (now («train_of_order» .entry)) (now (times .entry))) ⌝ }
+) -> Choice
+    ensures { λ r. ⌜ ExportedChoice (windowSheet sheet) wish r (areas (now («train_of_order» .exit)) (now (times .exit)))
+        (areas (now («train_of_order» .entry)) (now (times .entry))) ⌝ }
 {
-    let reply = planner::plan_timetable(sheet, pairs, train_of_order, times);
-    planning_of(reply)
+    let reply = planner::choosing::choose_windows(sheet, wish, train_of_order, times);
+    choice_of(reply)
+}
+
+// Chooses the plan of a sheet of the timetable form for a wished arrival.
+#[no_mangle]
+pub extern "C" fn joshkamber_choose_timetable(
+    sheet: TimetableSheet,
+    wish: u32,
+    train_of_order: &mut [u8],
+    times: &mut [u32],
+) -> Choice
+    ensures { λ r. ⌜ ExportedChoice (timetableSheet sheet) wish r (areas (now («train_of_order» .exit)) (now (times .exit)))
+        (areas (now («train_of_order» .entry)) (now (times .entry))) ⌝ }
+{
+    let reply = planner::choosing::choose_timetable(sheet, wish, train_of_order, times);
+    choice_of(reply)
 }

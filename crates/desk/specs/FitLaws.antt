@@ -1,37 +1,38 @@
 -- A PAGE OF 163,840 BYTES IS LONG ENOUGH FOR WHATEVER IS PRINTED OF A TEXT. Assumes nothing.
-use mathlib.Core.Path.{_≡_, refl, sym, ap, _∙_}
+use mathlib.Core.Path.{_≡_, refl}
 use mathlib.Core.List.{List, [], _∷_, _++_}
-use Prim.Native.Nat.{ℕ, zero, suc, _*_, _^_, _≤_, _<_}
+use Prim.Native.Nat.{ℕ, zero, suc, _^_, _≤_, _<_}
 use native.Mathlib.Omega.{arith}
 use lib.IntN.{pos, natAbs}
-use lib.ListN.{length, getD, drop}
-use lib.Seq.{take-at}
+use lib.ListN.{length, getD}
 use Rattle.numbers.specs.Counting.{at, nth}
 use Rattle.model.specs.Sheet.{Sheet}
 use Rattle.model.specs.Memory.{sheetOf}
-use Rattle.model.specs.Limits.{order-counts, train-counts, numbers-a-pair, numbers-a-train, most-printed}
+use Rattle.model.specs.Limits.{most-printed}
 use Rattle.model.specs.Lateness.{Pair, pair-at}
 use Rattle.model.specs.Admission.{Admitted}
-use Rattle.model.specs.Refusal.{returned, returnedOf}
+use Rattle.model.specs.Refusal.{returned}
 use Rattle.model.specs.declared.Refusal.{Refusal}
+use Rattle.model.specs.declared.Refusal.the-variants.{NoSchedule}
 use Rattle.model.specs.declared.Admission.{Admission}
 use Rattle.model.specs.declared.Admission.the-variants as tests
-use Rattle.rounds.specs.Recording.{Plan}
-use Rattle.rounds.specs.Rounds.{Answer, refused, planned}
-use Rattle.rounds.specs.Areas.{Areas, answer-to, reply, pair-numbers, time-numbers, areas-after}
-use Rattle.rounds.specs.AreaLaws.{pair-numbers-length, time-numbers-length, answer-returns}
+use Rattle.rounds.specs.Answers.{Answer, given, Listing, list}
+use Rattle.rounds.specs.Areas.{pair-numbers, time-numbers}
+use Rattle.rounds.specs.AreaLaws.{pair-numbers-length, time-numbers-length}
+use Rattle.rounds.specs.AnswerLaws.{Answered, no-schedule, listing, answered}
 use Rattle.rounds.specs.ScheduleLaws.{SmallPair}
-use Rattle.rounds.specs.SizeLaws.{Sizes, sizes}
+use Rattle.rounds.specs.SizeLaws.{list-sizes, plan-sizes}
 use Rattle.fields.specs.NamePlaces.{NamesLie}
 use Rattle.fields.specs.declared.NamePlaces.{NamePlaces}
 use Rattle.sheet.specs.Sheets.{reading}
 use Rattle.sheet.specs.AdmissionLaws.{read-admitted}
 use Rattle.sheet.specs.NameLaws.{names-lie}
 use Rattle.sheet.specs.ReturnedLaws.{text-refusal, returned-bound}
-use Rattle.planner.specs.CallLaws.{accepted}
 use Rattle.printer.specs.PlanLengthLaws.{plan-short}
 use Rattle.layout.specs.LengthLaws.{refusal-line-short}
-use Rattle.desk.specs.Printing.{reply-bytes, PlanBytes, AdmittedBytes, TextBytes, form-of}
+use Rattle.desk.specs.Printing.{AdmittedBytes, TextBytes, form-of}
+use Rattle.desk.specs.AnswerBytes.{last-recorded, listing-bytes, answer-bytes}
+use Rattle.desk.specs.AsBeforeLaws.{last-planned, as-before}
 
 -- ---- the numbers in the areas
 
@@ -64,58 +65,42 @@ time-numbers-small departure arrival (suc q) h k l =
     two (suc zero) u = h (suc q) (omega arith) (omega arith) .1
     two (suc (suc k)) u = absurd (omega arith)
 
--- ---- a planned sheet
+-- ---- a sheet
 
-module _ (text : List ℕ) (names : NamePlaces) (named : NamesLie text names) (s : Sheet) (lent : Areas) where
-  abbrev printed : Answer → List ℕ
-  printed a = reply-bytes text names s (reply a) (areas-after s a lent)
-
-  planned-short : (ps : List Pair) (x : Plan) (c : ℕ) → s .orders ≤ order-counts .most → s .trains ≤ train-counts .most → Sizes s ps x c
-      → length (printed (planned ps x c)) ≤ most-printed
-  unfolding reply-bytes reply areas-after
-  planned-short ps x c n q z =
+module _ (text : List ℕ) (names : NamePlaces) (named : NamesLie text names) (s : Sheet) (a : Admitted s) where
+  listing-short : (l : Listing) → list s ≡ given l → length (listing-bytes text names s l (last-recorded s .plan)) ≤ most-printed
+  listing-short l u =
+      let x = last-recorded s .plan in
+      let z = list-sizes s a u in
+      let y = plan-sizes s a (last-recorded s) (last-planned s a u) in
       let times = time-numbers (x .departure) (x .arrival) (s .trains) in
-      let many = pair-numbers-length ps in
+      let many = pair-numbers-length (l .pairs) in
       let long = time-numbers-length (x .departure) (x .arrival) (s .trains) in
-      rw (
-        take-at (pair-numbers ps) (drop (length (pair-numbers ps)) (lent .pairs)) (numbers-a-pair * length ps) many,
-        take-at (x .train) (drop (length (x .train)) (lent .trains)) (s .orders) (z .placed),
-        take-at times (drop (length times) (lent .times)) (numbers-a-train * s .trains) long,
-      )
-      (plan-short text names (pair-numbers ps) (x .train) times c named (omega (arith, z .few-pairs)) (omega (arith, z .placed)) (omega arith)
+      plan-short text names (pair-numbers (l .pairs)) (x .train) times (l .rounds) named
+      (omega (arith, z .few-pairs)) (omega (arith, y .placed, a .few .orders)) (omega (arith, a .few .trains))
       (record {
-        pairs-small = pair-numbers-small ps (z .pairs-small);
-        trains-small = λ k l. omega (arith, z .trains-small k (omega (arith, z .placed)));
+        pairs-small = pair-numbers-small (l .pairs) (z .pairs-small);
+        trains-small = λ k l. omega (arith, y .trains-small k (omega (arith, y .placed)));
         times-small =
             time-numbers-small (x .departure) (x .arrival) (s .trains)
-            (λ i u v. (omega (arith, z .departures-small i u v), omega (arith, z .arrivals-small i u v)));
+            (λ i u v. (omega (arith, y .departures-small i u v), omega (arith, y .arrivals-small i u v)));
         rounds-small = omega (arith, z .few-rounds);
-      }))
+      })
 
-  refusal-short : (r : Refusal) → returned r ≡ 0 → length (printed (refused r)) ≤ most-printed
-  unfolding reply-bytes reply
-  refusal-short r e = omega (arith, refusal-line-short r (omega arith))
-
-  answer-short : Admitted s → length (printed (answer-to s lent)) ≤ most-printed
-  unfolding reply
-  answer-short a = go (answer-to s lent) refl
+  answer-short : length (answer-bytes text names s (list s)) ≤ most-printed
+  answer-short = go (list s) (answered s a) refl
     where
-      go : (x : Answer) → answer-to s lent ≡ x → length (printed x) ≤ most-printed
-      go (refused r) e = refusal-short r (sym (ap (λ (x : Answer). returnedOf (reply x)) e) ∙ answer-returns s lent)
-      go (planned ps x c) e = planned-short ps x c (a .few .orders) (a .few .trains) (sizes s a (accepted s lent e .1))
+      go : (x : Answer Listing) → Answered s x → list s ≡ x → length (answer-bytes text names s x) ≤ most-printed
+      go x (no-schedule none) u = omega (arith, refusal-line-short NoSchedule (omega arith))
+      go x (listing {l = l} h) u = listing-short l u
 
 -- ---- whatever is printed
 
 module _ (text : List ℕ) (bytes : List ℕ) where
-  -- the reply and the areas are those of document 01's rounds, as the planning call's equality says
-  plan-fits : (names : NamePlaces) (s : Sheet) → NamesLie text names → Admitted s → PlanBytes text names s bytes → length bytes ≤ most-printed
-  plan-fits names s named a p =
-      rw (p .printed, p .call .equal .replied, p .call .equal .areas-left) (answer-short text names named s (p .lent) a)
-
   admitted-fits : (x : Admission) (names : NamePlaces) (s : Sheet) → NamesLie text names → (x ≡ tests.Granted → Admitted s)
       → ((q : Refusal) → x ≡ tests.Refused q → returned q < 2 ^ 64) → AdmittedBytes x text names s bytes → length bytes ≤ most-printed
   admitted-fits (tests.Refused q) names s named read line e = rw e (omega (arith, refusal-line-short q (line q refl)))
-  admitted-fits tests.Granted names s named read line p = plan-fits names s named (read refl) p
+  admitted-fits tests.Granted names s named read line p = rw (as-before text names s bytes (read refl) p) (answer-short text names named s (read refl))
 
   pub text-fits : length text < 2 ^ 64 → TextBytes text bytes → length bytes ≤ most-printed
   unfolding reading

@@ -1,4 +1,9 @@
 pub mod Printing
+pub mod Wish
+pub mod AnswerBytes
+pub mod ListedLaws
+pub mod WishLaws
+pub mod AsBeforeLaws
 pub mod FitLaws
 pub mod PrintingLaws
 pub mod CaseLaws

@@ -1,26 +1,32 @@
--- DOCUMENT 01, "THE PRINTED PLAN": WHAT IS PRINTED OF A TEXT.
+-- DOCUMENT 01, "THE PRINTED PLAN", AND DOCUMENT 02, NO. 1: WHAT IS PRINTED OF A TEXT.
 use mathlib.Core.Path.{_≡_}
 use mathlib.Core.Bool.{cond}
 use mathlib.Core.List.{List}
 use Prim.Native.Nat.{ℕ, _*_, _≤_}
 use lib.Dec.{eqb}
+use lib.IntN.{ℤ}
 use lib.ListN.{length, take}
 use Rattle.numbers.specs.Counting.{at}
 use Rattle.numbers.specs.Over.{over}
 use Rattle.model.specs.Sheet.{Sheet}
 use Rattle.model.specs.Memory.{sheetOf}
+use Rattle.model.specs.Lateness.{Pair}
 use Rattle.model.specs.Limits.{order-counts, numbers-a-pair, numbers-a-train, most-pair-numbers, most-time-numbers}
 use Rattle.model.specs.declared.Form.{Form}
 use Rattle.model.specs.declared.Form.the-variants.{Windows, Timetable}
 use Rattle.model.specs.declared.Admission.{Admission}
 use Rattle.model.specs.declared.Admission.the-variants as tests
-use Rattle.model.specs.declared.Reply.{Reply}
-use Rattle.model.specs.declared.Reply.the-variants.{Planned, Refused}
-use Rattle.rounds.specs.Areas.{Areas}
+use Rattle.model.specs.declared.ListReply.{ListReply}
+use Rattle.model.specs.declared.ListReply.the-variants as list
+use Rattle.model.specs.declared.ChoiceReply.the-variants.{Chosen}
+use Rattle.rounds.specs.Answers.{last-arrival-in}
+use Rattle.rounds.specs.Areas.{PlanAreas}
 use Rattle.fields.specs.declared.NamePlaces.{NamePlaces}
 use Rattle.sheet.specs.Sheets.{reading}
 use Rattle.sheet.specs.declared.Reading.{Reading}
-use Rattle.planner.specs.Planning.{PlanningCall}
+use Rattle.planner.specs.InAreas.{pairs-in}
+use Rattle.planner.specs.Listing.{ListingCall}
+use Rattle.planner.specs.Choosing.{ChoosingCall}
 use Rattle.writing.specs.Writing.{Prints}
 use Rattle.writing.specs.declared.Printed.{Printed}
 use Rattle.layout.specs.Lines.{refusal-line}
@@ -30,28 +36,37 @@ use Rattle.printer.specs.PlanBytes.{plan-bytes}
 unfoldable pub form-of : List ℕ → Form
 form-of text = cond (eqb (at text 0) 88) Timetable Windows
 
--- what is printed of a planning call's reply and the areas that it left: the listed pairs, n trains and q times, which stand at their fronts
-unfoldable pub reply-bytes : (text : List ℕ) → NamePlaces → Sheet → Reply → Areas → List ℕ
-reply-bytes text names s (Planned pairs rounds) left =
-    plan-bytes text names (take (numbers-a-pair * pairs) (left .pairs)) (take (s .orders) (left .trains)) (take (numbers-a-train * s .trains) (left .times))
-    rounds
-reply-bytes text names s (Refused r) left = refusal-line r
-
--- the bytes are those of a sheet that was planned in areas of the greatest size
-pub record PlanBytes (text : List ℕ) (names : NamePlaces) (s : Sheet) (bytes : List ℕ) : Type 0 where
-  pub reply : Reply
-  pub left : Areas
-  pub lent : Areas
-  pub pairs-lent : length (lent .pairs) ≡ most-pair-numbers
+-- what is printed of a sheet for which `count` pairs were listed in this area, by so many rounds: a plan is chosen in areas of the greatest size
+pub record PlanBytes (text : List ℕ) (names : NamePlaces) (s : Sheet) (count rounds : ℕ) (pairs : List ℤ) (bytes : List ℕ) : Type 0 where
+  pub pair : Pair
+  pub left : PlanAreas
+  pub lent : PlanAreas
   pub trains-lent : length (lent .trains) ≡ order-counts .most
   pub times-lent : length (lent .times) ≡ most-time-numbers
-  pub call : PlanningCall s reply left lent
-  pub printed : bytes ≡ reply-bytes text names s reply left
+  -- "`plan` wishes for the last listed arrival", and that wish is never refused
+  pub call : ChoosingCall s (last-arrival-in (pairs-in count pairs)) (Chosen (pair .last) (pair .worst)) left lent
+  -- "and prints as before": the listed pairs, n trains and q times, which stand at the fronts of the areas, and the count
+  pub printed : bytes
+      ≡ plan-bytes text names (take (numbers-a-pair * count) pairs) (take (s .orders) (left .trains)) (take (numbers-a-train * s .trains) (left .times)) rounds
 
--- by what the reading call says: "A refusal prints only `E,number,returned`", and a sheet is planned
+-- by what the listing call says: its refusal, or that
+abbrev pub ListBytes : ListReply → (text : List ℕ) → NamePlaces → Sheet → (pairs : List ℤ) (bytes : List ℕ) → Type 0
+ListBytes (list.Refused refusal) text names s pairs bytes = bytes ≡ refusal-line refusal
+ListBytes (list.Listed count rounds) text names s pairs bytes = PlanBytes text names s count rounds pairs bytes
+
+-- so of a sheet: its pairs are listed in an area of the greatest size
+pub record SheetBytes (text : List ℕ) (names : NamePlaces) (s : Sheet) (bytes : List ℕ) : Type 0 where
+  pub reply : ListReply
+  pub left : List ℤ
+  pub lent : List ℤ
+  pub pairs-lent : length lent ≡ most-pair-numbers
+  pub call : ListingCall s reply left lent
+  pub printed : ListBytes reply text names s left bytes
+
+-- by what the reading call says: "A refusal prints only `E,number,returned`", and of a sheet its pairs are listed
 abbrev pub AdmittedBytes : Admission → (text : List ℕ) → NamePlaces → Sheet → (bytes : List ℕ) → Type 0
 AdmittedBytes (tests.Refused refusal) text names s bytes = bytes ≡ refusal-line refusal
-AdmittedBytes tests.Granted text names s bytes = PlanBytes text names s bytes
+AdmittedBytes tests.Granted text names s bytes = SheetBytes text names s bytes
 
 -- of what a reading call gave
 abbrev pub ReadBytes : (text : List ℕ) → Reading → (bytes : List ℕ) → Type 0

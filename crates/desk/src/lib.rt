@@ -1,27 +1,33 @@
 // From the text of a sheet to the bytes of its printed plan.
+mod areas;
+
+use areas::first_orders;
+use areas::first_pairs;
+use areas::first_times;
+use areas::last_arrival;
 use fields::NamePlaces;
 use model::Admission;
+use model::ChoiceReply;
 use model::Form;
-use model::Reply;
+use model::ListReply;
 use model::Sheet;
 use model::limits::MOST_ORDERS;
 use model::limits::MOST_PAIR_NUMBERS;
 use model::limits::MOST_PRINTED;
 use model::limits::MOST_TIME_NUMBERS;
-use model::limits::NUMBERS_A_PAIR;
-use model::limits::NUMBERS_A_TRAIN;
+use planner::choosing;
+use planner::listing;
 use writing::Printed;
 ghost use mathlib.Core.Path.{_≡_};
-ghost use Prim.Native.Nat.{_*_};
-ghost use lib.ListN.{take};
+ghost use mathlib.Core.List.{List};
+ghost use lib.IntN.{ℤ};
 ghost use Rattle.model.specs.Memory.{sheetOf};
-ghost use Rattle.model.specs.Limits.{numbers-a-pair, numbers-a-train};
-ghost use Rattle.rounds.specs.Told.{areas};
-ghost use Rattle.writing.specs.Writing.{Prints};
-ghost use Rattle.desk.specs.Printing.{form-of, reply-bytes, PlanBytes, TextBytes, TextPrinted, Put};
+ghost use Rattle.model.specs.declared.ListReply.the-variants.{Listed};
+ghost use Rattle.planner.specs.Listing.{ListingCall};
+ghost use Rattle.desk.specs.Printing.{form-of, PlanBytes, SheetBytes, TextBytes, TextPrinted, Put};
 
-// Reads a text, plans its sheet, and prints the plan or the refusal to the front of the page, which is long enough for each. Gives how many bytes it
-// printed.
+// Reads a text, lists the pairs of its sheet, chooses the plan for the last of them, and prints it or the refusal to the front of the page, which is long
+// enough for each. Gives how many bytes it printed.
 pub fn print_text(text: &[u8], page: &mut [u8; MOST_PRINTED]) -> usize
     ensures { λ r. ⌜ TextPrinted (now (text .entry)) (now (page .entry)) r (now (page .exit)) ⌝ }
 {
@@ -61,83 +67,46 @@ fn form_of(text: &[u8]) -> Form
     Form::Windows
 }
 
-// Plans the sheet of a text, in areas that are long enough for every sheet, and prints the reply.
+// Lists the pairs of a text's sheet, in an area that is long enough for every sheet, and prints the plan or the refusal.
 fn put_sheet(text: &[u8], names: NamePlaces, sheet: Sheet, out: &mut [u8]) -> Printed
-    ensures { λ r. ⌜ Put (PlanBytes (now (text .entry)) names (sheetOf sheet)) (now (out .entry)) r (now (out .exit)) ⌝ }
+    ensures { λ r. ⌜ Put (SheetBytes (now (text .entry)) names (sheetOf sheet)) (now (out .entry)) r (now (out .exit)) ⌝ }
 {
     let mut pairs: [i64; MOST_PAIR_NUMBERS] = [0; MOST_PAIR_NUMBERS];
-    let mut train_of_order: [u8; MOST_ORDERS] = [0; MOST_ORDERS];
-    let mut times: [u32; MOST_TIME_NUMBERS] = [0; MOST_TIME_NUMBERS];
-    let reply = planner::plan(sheet, &mut pairs, &mut train_of_order, &mut times);
-    put_reply(
-        text,
-        names,
-        sheet,
-        reply,
-        &pairs,
-        &train_of_order,
-        &times,
-        out,
-    )
+    let reply = listing::list(sheet, &mut pairs);
+    match reply {
+        ListReply::Listed {
+            pairs: count,
+            rounds,
+        } => put_plan(text, names, sheet, &pairs, count, rounds, out),
+        ListReply::Refused(refusal) => printer::print_refusal(refusal, out),
+    }
 }
 
-// Prints a planning call's reply, with the fronts of the areas that it left.
-fn put_reply(
+// Chooses the plan for the last listed arrival, in areas that are long enough for every sheet, and prints it below the pairs, which a listing call has
+// left.
+fn put_plan(
     text: &[u8],
     names: NamePlaces,
     sheet: Sheet,
-    reply: Reply,
     pairs: &[i64],
-    train_of_order: &[u8],
-    times: &[u32],
+    count: usize,
+    rounds: usize,
     out: &mut [u8],
 ) -> Printed
-    ensures { λ r. ⌜ Prints (reply-bytes (now (text .entry)) names (sheetOf sheet) reply
-        (areas (now (pairs .entry)) (now («train_of_order» .entry)) (now (times .entry))))
+    requires { ⌜ ((found : List ℤ) × ListingCall (sheetOf sheet) (Listed count rounds) (now pairs) found) ⌝ }
+    ensures { λ r. ⌜ Put (PlanBytes (now (text .entry)) names (sheetOf sheet) count rounds (now (pairs .entry)))
         (now (out .entry)) r (now (out .exit)) ⌝ }
 {
-    match reply {
-        Reply::Planned {
-            pairs: count,
-            rounds,
-        } => {
-            let listed = first_pairs(pairs, count);
-            let loaded = first_orders(train_of_order, sheet.order_count);
-            let timed = first_times(times, sheet.train_count);
-            printer::print_plan(text, names, listed, loaded, timed, rounds, out)
-        }
-        Reply::Refused(refusal) => printer::print_refusal(refusal, out),
+    let mut train_of_order: [u8; MOST_ORDERS] = [0; MOST_ORDERS];
+    let mut times: [u32; MOST_TIME_NUMBERS] = [0; MOST_TIME_NUMBERS];
+    let wish = last_arrival(pairs, count);
+    let choice = choosing::choose(sheet, wish, &mut train_of_order, &mut times);
+    // That wish is never refused: the contract says that a plan is chosen.
+    if let ChoiceReply::Refused(refusal) = choice {
+        return printer::print_refusal(refusal, out);
     }
-}
-
-// The numbers of the first pairs; all numbers if there are no more.
-fn first_pairs(pairs: &[i64], count: usize) -> &[i64]
-    ensures { λ r. ⌜ r .now ≡ take (numbers-a-pair * count) (now (pairs .entry)) ⌝ }
-{
-    if pairs.len() / NUMBERS_A_PAIR < count {
-        return pairs;
-    }
-    let end = NUMBERS_A_PAIR * count;
-    &pairs[0..end]
-}
-
-// The trains of the first orders.
-fn first_orders(trains: &[u8], orders: usize) -> &[u8]
-    ensures { λ r. ⌜ r .now ≡ take orders (now (trains .entry)) ⌝ }
-{
-    if trains.len() < orders {
-        return trains;
-    }
-    &trains[0..orders]
-}
-
-// The times of the first trains.
-fn first_times(times: &[u32], trains: usize) -> &[u32]
-    ensures { λ r. ⌜ r .now ≡ take (numbers-a-train * trains) (now (times .entry)) ⌝ }
-{
-    if times.len() / NUMBERS_A_TRAIN < trains {
-        return times;
-    }
-    let end = NUMBERS_A_TRAIN * trains;
-    &times[0..end]
+    let listed = first_pairs(pairs, count);
+    let loaded = first_orders(&train_of_order, sheet.order_count);
+    let timed = first_times(&times, sheet.train_count);
+    printer::print_plan(text, names, listed, loaded, timed, rounds, out)
 }

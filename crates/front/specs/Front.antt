@@ -3,35 +3,39 @@
 use mathlib.Core.Path.{_≡_}
 use mathlib.Core.Logic.{_↔_}
 use mathlib.Core.List.{List}
-use Prim.Native.Nat.{ℕ, _-_, _*_, _≤_, _<_}
+use Prim.Native.Nat.{ℕ, _+_, _*_, _≤_, _<_}
 use lib.IntN.{ℤ}
 use lib.ListN.{length}
-use lib.Signed.{_<ℤ_}
+use lib.Signed.{_≤ℤ_, _<ℤ_}
 use Rattle.numbers.specs.Counting.{at, nth}
 use Rattle.model.specs.Sheet.{Sheet}
 use Rattle.model.specs.Schedule.{Schedule}
 use Rattle.model.specs.Arrival.{arrival}
 use Rattle.model.specs.Lateness.{Pair, pairOf, AtLeastAsGood, pair-at}
 use Rattle.model.specs.Admission.{Admitted}
-use Rattle.model.specs.declared.Refusal.the-variants.{NoSchedule, RoundLimit}
+use Rattle.model.specs.declared.Refusal.the-variants.{NoSchedule, RoundLimit, WishTooEarly}
 use Rattle.rounds.specs.Timing.{stopped, timed}
-use Rattle.rounds.specs.Recording.{Plan, Entry, entry-at}
+use Rattle.rounds.specs.Recording.{Entry, entry-at, last-entry, recorded-arrival}
 use Rattle.rounds.specs.EntryPlan.{EntryPlan}
-use Rattle.rounds.specs.Rounds.{going, ended, recorded-in, start, loading, times, first-timing, rounds, search, refused, planned, plan}
+use Rattle.rounds.specs.Rounds.{going, ended, recorded-in, start, loading, times, first-timing, rounds, search}
 use Rattle.rounds.specs.RoundsBound.{rounds-bound}
+use Rattle.rounds.specs.Answers.{refused, given, Listing, list, last-arrival-in, choose}
 use Rattle.rounds.specs.SumLaws.{within-limit}
 use Rattle.rounds.specs.PairListLaws.{apart}
 use Rattle.rounds.specs.InvariantLaws.{entry-plans, reached, earliest-plan}
+use Rattle.rounds.specs.ArrivalLaws as arrivals
 use Rattle.rounds.specs.AnswerLaws.{listed-so, eight-means, eight-given, eight-stops, nine-never, ends-within}
+use Rattle.rounds.specs.ChosenLaws.{choice-best, chosen-so, eleven-chosen, eleven-before-first, nine-never-chosen}
+use Rattle.rounds.specs.ChoosingLaws.{eight-chosen, eight-chosen-stops, listed-chosen, last-recorded-chosen}
 
 -- ---- demand 3: the listed pairs
 
 -- "no schedule": 8 is given exactly when there is none
-pub no-schedule : (s : Sheet) → Admitted s → plan s ≡ refused NoSchedule ↔ ((train departure : List ℕ) → ¬ Schedule s train departure)
+pub no-schedule : (s : Sheet) → Admitted s → list s ≡ refused NoSchedule ↔ ((train departure : List ℕ) → ¬ Schedule s train departure)
 no-schedule s a = (eight-means s a, eight-given s a)
 
 -- "(step 2 stops round 1)": and exactly when that is so
-pub first-stop : (s : Sheet) → Admitted s → plan s ≡ refused NoSchedule ↔ (first-timing s ≡ stopped)
+pub first-stop : (s : Sheet) → Admitted s → list s ≡ refused NoSchedule ↔ (first-timing s ≡ stopped)
 first-stop s a = eight-stops s a
 
 pub record Front (s : Sheet) (pairs : List Pair) : Type 0 where
@@ -46,26 +50,92 @@ pub record Front (s : Sheet) (pairs : List Pair) : Type 0 where
   -- "the pairs in order of arrival"
   pub by-arrival : (i k : ℕ) → i < k → k < length pairs → pair-at pairs i .last < pair-at pairs k .last
 
--- If the rounds aren't cut off by their limit (that answer is `refused RoundLimit`, not `planned`), they list the front.
-pub listed-is-front : (s : Sheet) → Admitted s → {pairs : List Pair} {x : Plan} {c : ℕ} → plan s ≡ planned pairs x c → Front s pairs
-listed-is-front s a {pairs} e =
-    let l = listed-so s a e in
-    record { belongs = l .belong; covers = l .cover; distinct = apart pairs (l .rise); by-arrival = λ i k u v. l .rise i k u v .earlier }
+-- If the rounds aren't cut off by their limit (that answer is `refused RoundLimit`, not `given`), they list the front.
+pub listed-is-front : (s : Sheet) → Admitted s → {l : Listing} → list s ≡ given l → Front s (l .pairs)
+listed-is-front s a {l} e =
+    let h = listed-so s a e in
+    record { belongs = h .belong; covers = h .cover; distinct = apart (l .pairs) (h .rise); by-arrival = λ i k u v. h .rise i k u v .earlier }
 
--- ---- demand 2: "the train of each order and the times of each train in the last recorded plan"
+-- ---- what is recorded
 
 -- of each recorded entry, after any number of rounds, the plan is a schedule whose pair it is
 pub recorded-plans : (s : Sheet) → Admitted s → (k m : ℕ) → m < length (recorded-in (rounds s k (start s)))
     → EntryPlan s (entry-at (recorded-in (rounds s k (start s))) m)
 recorded-plans s a k = entry-plans s a k
 
--- the plan given is that of the pair listed last
-pub record LastPlan (s : Sheet) (pairs : List Pair) (x : Plan) : Type 0 where
-  pub not-empty : 1 ≤ length pairs
-  pub entry : EntryPlan s (record { pair = pair-at pairs (length pairs - 1); plan = x })
+-- the arrival of the pair recorded last never falls from round to round
+pub arrivals-never-fall : (s : Sheet) → Admitted s → (k : ℕ)
+    → recorded-arrival (recorded-in (rounds s k (start s))) ≤ recorded-arrival (recorded-in (rounds s (k + 1) (start s)))
+arrivals-never-fall s a k = arrivals.arrivals-never-fall s a k
 
-pub plan-given : (s : Sheet) → Admitted s → {pairs : List Pair} {x : Plan} {c : ℕ} → plan s ≡ planned pairs x c → LastPlan s pairs x
-plan-given s a e = let l = listed-so s a e in record { not-empty = l .not-empty; entry = l .last-plan }
+-- ---- document 02, No. 1: the plan for a wished last arrival
+
+-- "A chosen plan is a schedule", and the pair chosen is its own
+pub chosen-plan : (s : Sheet) → Admitted s → (wish : ℕ) {e : Entry} → choose s wish ≡ given e → EntryPlan s e
+chosen-plan s a wish u = chosen-so s a wish u .plan
+
+-- "the last listed pair not later than it"
+pub record LastInTime (wish : ℕ) (pairs : List Pair) (p : Pair) : Type 0 where
+  pub place : ℕ
+  pub among : place < length pairs
+  pub is : pair-at pairs place ≡ p
+  pub in-time : p .last ≤ wish
+  pub later : (k : ℕ) → place < k → k < length pairs → wish < pair-at pairs k .last
+
+pub record ChosenListed (s : Sheet) (wish : ℕ) (p : Pair) : Type 0 where
+  pub listing : Listing
+  pub is-list : list s ≡ given listing
+  pub last : LastInTime wish (listing .pairs) p
+
+pub chosen-listed : (s : Sheet) → Admitted s → (wish : ℕ) {e : Entry} → choose s wish ≡ given e → ChosenListed s wish (e .pair)
+chosen-listed s a wish u =
+    let h = chosen-so s a wish u in
+    record {
+      listing = h .listing;
+      is-list = h .is-list;
+      last = record { place = h .place; among = h .among; is = h .is; in-time = h .timely; later = h .later };
+    }
+
+-- "and none that arrives in time has a smaller worst lateness"
+abbrev pub Best : (s : Sheet) (wish : ℕ) (p : Pair) → Type 0
+Best s wish p =
+    (train departure : List ℕ) → Schedule s train departure → pairOf s train departure .last ≤ wish → p .worst ≤ℤ pairOf s train departure .worst
+
+pub chosen-best : (s : Sheet) → Admitted s → (wish : ℕ) {e : Entry} → choose s wish ≡ given e → Best s wish (e .pair)
+chosen-best s a wish {e} u = choice-best s wish e (chosen-so s a wish u)
+
+-- a wish for a listed arrival gives the plan of that very pair
+pub that-very-pair : (s : Sheet) → Admitted s → {l : Listing} → list s ≡ given l → (k : ℕ) → k < length (l .pairs)
+    → (e : Entry) × (choose s (pair-at (l .pairs) k .last) ≡ given e) × (e .pair ≡ pair-at (l .pairs) k)
+that-very-pair s a u = listed-chosen s a u
+
+-- demand 2, "in the last recorded plan": it is chosen where the wish is for the last listed arrival
+pub last-plan-chosen : (s : Sheet) → Admitted s → {l : Listing} → list s ≡ given l
+    → choose s (last-arrival-in (l .pairs)) ≡ given (last-entry (recorded-in (search s)))
+last-plan-chosen s a u = last-recorded-chosen s a u
+
+-- "its words on 8 hold for both"
+pub no-schedule-chosen : (s : Sheet) → Admitted s → (wish : ℕ)
+    → choose s wish ≡ refused NoSchedule ↔ ((train departure : List ℕ) → ¬ Schedule s train departure)
+no-schedule-chosen s a wish = eight-chosen s a wish
+
+pub first-stop-chosen : (s : Sheet) → Admitted s → (wish : ℕ) → choose s wish ≡ refused NoSchedule ↔ (first-timing s ≡ stopped)
+first-stop-chosen s a wish = eight-chosen-stops s a wish
+
+-- "11, the wished arrival is before the first listed one"
+pub before-the-first : (s : Sheet) → Admitted s → (wish : ℕ) {l : Listing} → list s ≡ given l
+    → choose s wish ≡ refused WishTooEarly ↔ (wish < pair-at (l .pairs) 0 .last)
+before-the-first s a wish u = eleven-before-first s a wish u
+
+-- that is when there is a schedule, and none arrives by the wish
+pub record TooEarly (s : Sheet) (wish : ℕ) : Type 0 where
+  pub some : (train : List ℕ) × (departure : List ℕ) × Schedule s train departure
+  pub later : (train departure : List ℕ) → Schedule s train departure → wish < pairOf s train departure .last
+
+pub wish-too-early : (s : Sheet) → Admitted s → (wish : ℕ) → choose s wish ≡ refused WishTooEarly ↔ TooEarly s wish
+wish-too-early s a wish =
+    let both = eleven-chosen s a wish in
+    (λ u. record { some = both .0 u .some; later = both .0 u .late }, λ h. both .1 (record { some = h .some; late = h .later }))
 
 -- ---- how many rounds
 
@@ -74,16 +144,19 @@ pub search-ends : (s : Sheet) → Admitted s → (c : ℕ) × (recorded : List E
 search-ends s a = ends-within s a
 
 -- "and lists no more pairs"
-pub round-bound : (s : Sheet) → Admitted s → {pairs : List Pair} {x : Plan} {c : ℕ} → plan s ≡ planned pairs x c
-    → (c ≤ rounds-bound s) × (length pairs ≤ rounds-bound s)
-round-bound s a e = let l = listed-so s a e in (l .few-rounds, l .few-pairs)
+pub round-bound : (s : Sheet) → Admitted s → {l : Listing} → list s ≡ given l
+    → (l .rounds ≤ rounds-bound s) × (length (l .pairs) ≤ rounds-bound s)
+round-bound s a e = let h = listed-so s a e in (h .few-rounds, h .few-pairs)
 
 -- "A round numbered n × q + 1 isn't begun": no search needs it, so 9 is never given
 pub bound-within-limit : (s : Sheet) → Admitted s → rounds-bound s ≤ s .orders * s .trains
 bound-within-limit s a = within-limit s (a .complete .trains) (a .complete .orders)
 
-pub never-cut-off : (s : Sheet) → Admitted s → ¬ (plan s ≡ refused RoundLimit)
+pub never-cut-off : (s : Sheet) → Admitted s → ¬ (list s ≡ refused RoundLimit)
 never-cut-off s a = nine-never s a
+
+pub never-cut-off-chosen : (s : Sheet) → Admitted s → (wish : ℕ) → ¬ (choose s wish ≡ refused RoundLimit)
+never-cut-off-chosen s a wish = nine-never-chosen s a wish
 
 -- ---- a search that goes on after k rounds: document 02, No. 11 and No. 13 rest on this
 

@@ -12,7 +12,7 @@ use borrow.Author.Tests.{ltb-true, ltb-false}
 use Rattle.model.specs.Refusal.{number, returned}
 use Rattle.model.specs.declared.Refusal.{Refusal}
 use Rattle.model.specs.declared.Refusal.the-variants.{Malformed, OutOfRange, KindTooEarly, TooMany, KindMissing, OutOfOrder, PlacesDiffer, NoSchedule}
-use Rattle.model.specs.declared.Refusal.the-variants.{RoundLimit, AreaTooShort}
+use Rattle.model.specs.declared.Refusal.the-variants.{RoundLimit, AreaTooShort, WishTooEarly}
 use Rattle.fields.specs.NamePlaces.{NamesLie}
 use Rattle.fields.specs.NameLaws.{short-name, name-within}
 use Rattle.fields.specs.declared.NamePlaces.{NamePlaces}
@@ -82,6 +82,7 @@ number-small PlacesDiffer = omega arith
 number-small NoSchedule = omega arith
 number-small RoundLimit = omega arith
 number-small AreaTooShort = omega arith
+number-small WishTooEarly = omega arith
 
 pub refusal-line-short : (r : Refusal) → returned r < 2 ^ 64 → length (refusal-line r) ≤ 33
 unfolding refusal-line

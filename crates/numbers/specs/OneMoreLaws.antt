@@ -33,10 +33,6 @@ module _ {A : Type 0} (d : A) (l : List A) (x : A) where
   pub more-new : getD more (length l) d ≡ x
   more-new = getD-append-seam l x [] d
 
-  -- the last one
-  pub more-last : getD more (length more - 1) d ≡ x
-  more-last = let e : length more - 1 ≡ length l = omega (arith, more-length) in ap (λ (k : ℕ). getD more k d) e ∙ more-new
-
   -- a place is an old one or the new one
   pub data Place (k : ℕ) : Type 0 where
     old : k < length l → getD more k d ≡ getD l k d → Place k

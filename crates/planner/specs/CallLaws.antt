@@ -1,80 +1,69 @@
--- From the tests of a call to its answer, and back. Assumes nothing.
-use mathlib.Core.Path.{_≡_, refl, sym, ap, _∙_, subst}
+-- From the tests before the rounds to a call's answer. Assumes nothing.
+use mathlib.Core.Path.{_≡_, refl, sym, ap, _∙_}
 use mathlib.Core.Bool.{Bool, true, false, cond}
-use mathlib.Core.List.{List}
 use Prim.Native.Nat.{ℕ}
 use native.Mathlib.Omega.{arith}
-use Rattle.numbers.specs.DecidesLaws.{cond-yes, cond-no}
 use Rattle.model.specs.Sheet.{Sheet}
-use Rattle.model.specs.Lateness.{Pair}
 use Rattle.model.specs.Admission.{Admitted, admission}
 use Rattle.model.specs.AdmissionLaws.{admitted-means}
 use Rattle.model.specs.declared.Admission.{Admission}
-use Rattle.model.specs.declared.Admission.the-variants as tests
+use Rattle.model.specs.declared.Admission.the-variants.{Granted, Refused}
 use Rattle.model.specs.declared.Refusal.{Refusal}
 use Rattle.model.specs.declared.Refusal.the-variants.{AreaTooShort}
-use Rattle.model.specs.declared.Reply.{Reply}
-use Rattle.model.specs.declared.Reply.the-variants.{Refused}
-use Rattle.rounds.specs.Recording.{Plan}
-use Rattle.rounds.specs.Rounds.{Answer, refused, planned, plan}
-use Rattle.rounds.specs.Areas.{Areas, LongEnough, long-enough, answer-after, answer-to, reply, areas-after}
-use Rattle.rounds.specs.AreaLaws.{decides-long-enough}
-use Rattle.rounds.specs.Told.{Told}
-use Rattle.planner.specs.Refused.{refused-by}
+use Rattle.rounds.specs.Answers.{Answer, refused, given}
+use Rattle.rounds.specs.Areas.{after-admission, tested, after-tests}
 
-module _ (s : Sheet) (lent : Areas) where
-  -- ---- what the tests answer
+-- ---- the tests
 
-  -- tests 4, 5, 2, 6, 7
-  answer-not-admitted : (r : Refusal) → admission s ≡ tests.Refused r → answer-to s lent ≡ refused r
-  unfolding answer-to answer-after
-  answer-not-admitted r e = ap (answer-after s lent) e
+-- where tests 4, 5, 2, 6, 7 say a: the first that failed
+pub tested-first : (s : Sheet) (room : Bool) (a : Admission) (r : Refusal) → a ≡ admission s → a ≡ Refused r → a ≡ tested s room
+unfolding tested after-admission
+tested-first s room a r is e = e ∙ ap (after-admission room) (sym e ∙ is)
 
-  after-admission : Admitted s → answer-to s lent ≡ cond (long-enough s lent) (plan s) (refused AreaTooShort)
-  unfolding answer-to answer-after
-  after-admission a = ap (answer-after s lent) (admitted-means s .1 a)
+-- or 10
+pub tested-room : (s : Sheet) (room : Bool) (a : Admission) → a ≡ admission s → a ≡ Granted → cond room Granted (Refused AreaTooShort) ≡ tested s room
+unfolding tested after-admission
+tested-room s room a is e = ap (after-admission room) (sym e ∙ is)
 
-  -- test 10
-  answer-too-short : Admitted s → ¬ LongEnough s lent → answer-to s lent ≡ refused AreaTooShort
-  answer-too-short a l = after-admission a ∙ cond-no (decides-long-enough s lent) l _ _
+-- a sheet that passes is admitted, and the areas have room
+pub record Passed (s : Sheet) (room : Bool) : Type 0 where
+  pub admitted : Admitted s
+  pub has-room : room ≡ true
 
-  -- "then 8 or 9"
-  pub answer-of-rounds : Admitted s → LongEnough s lent → answer-to s lent ≡ plan s
-  answer-of-rounds a l = after-admission a ∙ cond-yes (decides-long-enough s lent) l _ _
+pub passed : (s : Sheet) (room : Bool) → tested s room ≡ Granted → Passed s room
+unfolding tested after-admission
+passed s room e = go (admission s) refl e
+  where
+    long : (b : Bool) → cond b Granted (Refused AreaTooShort) ≡ Granted → b ≡ true
+    long true u = refl
+    long false u = absurd (let z : _≡_ {A = ℕ} 0 1 = cc in omega arith)
 
-  -- ---- told
+    go : (a : Admission) → admission s ≡ a → after-admission room a ≡ Granted → Passed s room
+    go Granted u v = record { admitted = admitted-means s .0 u; has-room = long room v }
+    go (Refused r) u v = absurd (let z : _≡_ {A = ℕ} 0 1 = cc in omega arith)
 
-  -- a refusal is told by its reply, and the areas as found
-  told-refused : (r : Refusal) → answer-to s lent ≡ refused r → Told s (answer-to s lent) (Refused r) lent lent
-  unfolding reply areas-after
-  told-refused r e = subst (λ (x : Answer). Told s x (Refused r) lent lent) (sym e) (record { replied = refl; areas-left = refl })
+pub passes : (s : Sheet) (room : Bool) → Admitted s → room ≡ true → tested s room ≡ Granted
+unfolding tested after-admission
+passes s room a e = rw e (ap (after-admission true) (admitted-means s .1 a))
 
-  -- where the tests 4, 5, 2, 6, 7 say a, and r is told: the first that failed
-  pub told-not-admitted : (a : Admission) (f : Refusal) (r : Reply) → a ≡ admission s → a ≡ tests.Refused f → r ≡ refused-by a
-      → Told s (answer-to s lent) r lent lent
-  unfolding refused-by
-  told-not-admitted a f r is e u = rw (u, e) (told-refused f (answer-not-admitted f (sym is ∙ e)))
+-- ---- the answer
 
-  -- test 10
-  pub told-too-short : (a : Admission) (r : Reply) → a ≡ admission s → a ≡ tests.Granted → r ≡ refused-by a → ¬ LongEnough s lent
-      → Told s (answer-to s lent) r lent lent
-  unfolding refused-by
-  told-too-short a r is e u l = rw (u, e) (told-refused AreaTooShort (answer-too-short (admitted-means s .0 (sym is ∙ e)) l))
+module _ {A : Type 0} (s : Sheet) (room : Bool) (x : Answer A) where
+  -- what the tests refuse
+  pub answer-refused : (r : Refusal) → tested s room ≡ Refused r → after-tests (tested s room) x ≡ refused r
+  unfolding after-tests
+  answer-refused r e = ap (λ (t : Admission). after-tests t x) e
 
-  -- what the rounds tell is what the call tells
-  pub told-rounds : Admitted s → LongEnough s lent → (r : Reply) (left : Areas) → Told s (plan s) r left lent → Told s (answer-to s lent) r left lent
-  told-rounds a l r left t = subst (λ (x : Answer). Told s x r left lent) (sym (answer-of-rounds a l)) t
+  -- what the rounds answer
+  pub answer-granted : tested s room ≡ Granted → after-tests (tested s room) x ≡ x
+  unfolding after-tests
+  answer-granted e = ap (λ (t : Admission). after-tests t x) e
 
-  -- ---- from the answer back to the rounds
-
-  pub accepted : {pairs : List Pair} {x : Plan} {c : ℕ} → answer-to s lent ≡ planned pairs x c → Admitted s × (plan s ≡ planned pairs x c)
-  unfolding answer-to answer-after
-  accepted {pairs} {x} {c} e = go (admission s) refl e
+  -- an accepted call has passed the tests, and the rounds give what it gives
+  pub accepted : {y : A} → after-tests (tested s room) x ≡ given y → (tested s room ≡ Granted) × (x ≡ given y)
+  unfolding after-tests
+  accepted {y} e = go (tested s room) refl e
     where
-      long : (b : Bool) → cond b (plan s) (refused AreaTooShort) ≡ planned pairs x c → plan s ≡ planned pairs x c
-      long true w = w
-      long false w = absurd (let z : _≡_ {A = ℕ} 0 1 = cc in omega arith)
-
-      go : (a : Admission) → admission s ≡ a → answer-after s lent a ≡ planned pairs x c → Admitted s × (plan s ≡ planned pairs x c)
-      go tests.Granted u v = (admitted-means s .0 u, long (long-enough s lent) v)
-      go (tests.Refused r) u v = absurd (let z : _≡_ {A = ℕ} 0 1 = cc in omega arith)
+      go : (t : Admission) → tested s room ≡ t → after-tests t x ≡ given y → (tested s room ≡ Granted) × (x ≡ given y)
+      go Granted u v = (u, v)
+      go (Refused r) u v = absurd (let z : _≡_ {A = ℕ} 0 1 = cc in omega arith)

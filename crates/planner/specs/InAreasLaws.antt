@@ -3,7 +3,7 @@ use mathlib.Core.Path.{_≡_, refl, sym, ap, _∙_}
 use mathlib.Core.List.{List, [], _∷_}
 use Prim.Native.Nat.{ℕ, zero, suc, _+_, _-_, _*_, _<_}
 use native.Mathlib.Omega.{arith}
-use lib.IntN.{pos}
+use lib.IntN.{ℤ, pos}
 use lib.ListN.{length, getD, drop, List·getD-append}
 use lib.Seq.{take-at, ext-getD, getD-at, getD-append-add}
 use Rattle.numbers.specs.Counting.{at, nth, table}
@@ -14,9 +14,10 @@ use Rattle.numbers.specs.OverLaws.{over-at}
 use Rattle.model.specs.Sheet.{Sheet}
 use Rattle.model.specs.Limits.{numbers-a-pair, numbers-a-train}
 use Rattle.model.specs.Lateness.{Pair, pair-at}
-use Rattle.rounds.specs.Recording.{Plan, no-pair}
-use Rattle.rounds.specs.Rounds.{planned}
-use Rattle.rounds.specs.Areas.{Areas, pair-numbers, time-numbers, areas-after}
+use Rattle.rounds.specs.Recording.{Plan, Entry, no-pair}
+use Rattle.rounds.specs.EntryPlan.{EntryPlan}
+use Rattle.rounds.specs.Answers.{given}
+use Rattle.rounds.specs.Areas.{PlanAreas, pair-numbers, time-numbers, plan-left}
 use Rattle.rounds.specs.AreaLaws.{pair-numbers-length, time-numbers-length}
 use Rattle.planner.specs.InAreas.{pair-in, pairs-in, plan-in}
 
@@ -66,18 +67,17 @@ module _ (departure arrival : List ℕ) where
 
 -- ---- the areas
 
-module _ (s : Sheet) (ps : List Pair) (x : Plan) (c : ℕ) (found : Areas) where
-  abbrev left : Areas
-  left = areas-after s (planned ps x c) found
+module _ (ps : List Pair) (found : List ℤ) where
+  abbrev left : List ℤ
+  left = over (pair-numbers ps) found
 
   pair-read : (k : ℕ) → k < length ps → pair-in left k ≡ pair-at ps k
-  unfolding areas-after
   pair-read k l =
       let h = pair-found ps k l in
       let m = pair-numbers-length ps in
       rw (
-        over-at (pair-numbers ps) (found .pairs) (pos 0) (numbers-a-pair * k) (omega arith) ∙ h .last-at,
-        over-at (pair-numbers ps) (found .pairs) (pos 0) (numbers-a-pair * k + 1) (omega arith) ∙ h .worst-at,
+        over-at (pair-numbers ps) found (pos 0) (numbers-a-pair * k) (omega arith) ∙ h .last-at,
+        over-at (pair-numbers ps) found (pos 0) (numbers-a-pair * k + 1) (omega arith) ∙ h .worst-at,
       )
       refl
 
@@ -88,30 +88,33 @@ module _ (s : Sheet) (ps : List Pair) (x : Plan) (c : ℕ) (found : Areas) where
       ext-getD no-pair (table (pair-in left) (length ps)) ps m
       (λ k l. let u : k < length ps = omega (arith, l, m) in table-at (pair-in left) no-pair (length ps) k u ∙ pair-read k u)
 
-  module _ (trains : length (x .train) ≡ s .orders) (departures : length (x .departure) ≡ s .trains) (arrivals : length (x .arrival) ≡ s .trains) where
-    -- a column of times, read at every second place
-    column : (l : List ℕ) (f : ℕ → ℕ) → length l ≡ s .trains → ((m : ℕ) → m < s .trains → f m ≡ nth l (suc m)) → table f (s .trains) ≡ l
-    column l f e h =
-        ext-getD 0 (table f (s .trains)) l (table-length f (s .trains) ∙ sym e)
-        (λ m k. let u : m < s .trains = omega (arith, k, table-length f (s .trains)) in
-        let v : suc m - 1 ≡ m = omega arith in
-        table-at f 0 (s .trains) m u ∙ h m u ∙ ap (at l) v)
+module _ (s : Sheet) (e : Entry) (found : PlanAreas) (placed : EntryPlan s e) where
+  -- a column of times, read at every second place
+  column : (l : List ℕ) (f : ℕ → ℕ) → length l ≡ s .trains → ((m : ℕ) → m < s .trains → f m ≡ nth l (suc m)) → table f (s .trains) ≡ l
+  column l f e h =
+      ext-getD 0 (table f (s .trains)) l (table-length f (s .trains) ∙ sym e)
+      (λ m k. let u : m < s .trains = omega (arith, k, table-length f (s .trains)) in
+      let v : suc m - 1 ≡ m = omega arith in
+      table-at f 0 (s .trains) m u ∙ h m u ∙ ap (at l) v)
 
-    abbrev written : List ℕ
-    written = time-numbers (x .departure) (x .arrival) (s .trains)
+  abbrev x : Plan
+  x = e .plan
 
-    written-at : (k : ℕ) → k < numbers-a-train * s .trains → at (over written (found .times)) k ≡ at written k
-    written-at k l = over-at written (found .times) 0 k (omega (arith, time-numbers-length (x .departure) (x .arrival) (s .trains)))
+  abbrev written : List ℕ
+  written = time-numbers (x .departure) (x .arrival) (s .trains)
 
-    pub plan-read : plan-in s left ≡ x
-    unfolding plan-in areas-after
-    plan-read =
-        let times = times-found (x .departure) (x .arrival) (s .trains) in
-        rw (
-          take-at (x .train) (drop (length (x .train)) (found .trains)) (s .orders) trains,
-          column (x .departure) (λ m. at (left .times) (numbers-a-train * m)) departures
-              (λ m l. written-at (numbers-a-train * m) (omega arith) ∙ times m l .departure-at),
-          column (x .arrival) (λ m. at (left .times) (numbers-a-train * m + 1)) arrivals
-              (λ m l. written-at (numbers-a-train * m + 1) (omega arith) ∙ times m l .arrival-at),
-        )
-        refl
+  written-at : (k : ℕ) → k < numbers-a-train * s .trains → at (over written (found .times)) k ≡ at written k
+  written-at k l = over-at written (found .times) 0 k (omega (arith, time-numbers-length (x .departure) (x .arrival) (s .trains)))
+
+  pub plan-read : plan-in s (plan-left s (given e) found) ≡ x
+  unfolding plan-in plan-left
+  plan-read =
+      let times = times-found (x .departure) (x .arrival) (s .trains) in
+      rw (
+        take-at (x .train) (drop (length (x .train)) (found .trains)) (s .orders) (placed .schedule .placed),
+        column (x .departure) (λ m. at (over written (found .times)) (numbers-a-train * m)) (placed .schedule .departs)
+            (λ m l. written-at (numbers-a-train * m) (omega arith) ∙ times m l .departure-at),
+        column (x .arrival) (λ m. at (over written (found .times)) (numbers-a-train * m + 1)) (placed .arrives)
+            (λ m l. written-at (numbers-a-train * m + 1) (omega arith) ∙ times m l .arrival-at),
+      )
+      refl

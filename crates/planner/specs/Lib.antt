@@ -1,6 +1,12 @@
 pub mod InAreas
 pub mod InAreasLaws
-pub mod Refused
+pub mod Listing
+pub mod ListingLaws
+pub mod Choosing
+pub mod ChoosingLaws
+pub mod Outcome
 pub mod CallLaws
-pub mod Planning
-pub mod PlanningLaws
+pub mod SoFar
+pub mod SoFarLaws
+pub mod RunningLaws
+pub mod ChoiceRoundLaws

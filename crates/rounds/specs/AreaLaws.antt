@@ -1,32 +1,37 @@
 -- Laws of the lent areas: the test of their lengths, how many numbers are written, and what a refused call returns and leaves. Assumes nothing.
-use mathlib.Core.Path.{_≡_, refl, ap}
+use mathlib.Core.Path.{_≡_, refl, ap, _∙_}
 use mathlib.Core.Bool.{Bool, true, false, cond}
 use mathlib.Core.List.{List, [], _∷_, _++_}
 use Prim.Native.Nat.{ℕ, zero, suc, _*_, _≤_}
 use native.Mathlib.Omega.{arith}
-use lib.IntN.{pos}
+use lib.IntN.{ℤ, pos}
 use lib.ListN.{length, length-append}
 use Rattle.numbers.specs.DecidesLaws.{Decides, decides-le, decides-and, decides-iff}
 use Rattle.model.specs.Sheet.{Sheet}
 use Rattle.model.specs.Limits.{numbers-a-pair, numbers-a-train}
 use Rattle.model.specs.Lateness.{Pair}
-use Rattle.model.specs.Refusal.{numberOf, returnedOf}
+use Rattle.model.specs.Refusal.{returned, numberOf, returnedOf, of-listing, of-choice}
 use Rattle.model.specs.Admission.{admission}
 use Rattle.model.specs.AdmissionLaws.{admission-returns}
 use Rattle.model.specs.declared.Admission.{Admission}
 use Rattle.model.specs.declared.Admission.the-variants as tests
+use Rattle.model.specs.declared.Refusal.{Refusal}
 use Rattle.model.specs.declared.Refusal.the-variants.{AreaTooShort}
-use Rattle.rounds.specs.Rounds.{Search, going, ended, search, Answer, refused, planned, answer, plan}
-use Rattle.rounds.specs.Areas.{Areas, pairs-needed, times-needed, LongEnough, long-enough, answer-after, answer-to, reply}
-use Rattle.rounds.specs.Areas.{pair-numbers, time-numbers, areas-after}
+use Rattle.rounds.specs.Recording.{Entry}
+use Rattle.rounds.specs.Rounds.{Search, going, ended, search}
+use Rattle.rounds.specs.Answers.{Answer, refused, given, Listing, list-of, list, in-time, chosen, choice-of, choose}
+use Rattle.rounds.specs.Areas.{PlanAreas, pairs-needed, times-needed, ListRoom, list-room, PlanRoom, plan-room}
+use Rattle.rounds.specs.Areas.{after-admission, tested, after-tests, list-to, choose-to, list-reply, choice-reply}
+use Rattle.rounds.specs.Areas.{pair-numbers, time-numbers, list-left, plan-left}
 
--- test 10
-pub decides-long-enough : (s : Sheet) (lent : Areas) → Decides (LongEnough s lent) (long-enough s lent)
-decides-long-enough s lent =
-    decides-iff (λ x. record { pairs = x .0 .0; trains = x .0 .1; times = x .1 }) (λ x. ((x .pairs, x .trains), x .times))
-    (decides-and
-    (decides-and (decides-le (pairs-needed s) (length (lent .pairs))) (decides-le (s .orders) (length (lent .trains))))
-    (decides-le (times-needed s) (length (lent .times))))
+-- test 10, of each call
+pub decides-list-room : (s : Sheet) (pairs : List ℤ) → Decides (ListRoom s pairs) (list-room s (length pairs))
+decides-list-room s pairs = decides-le (pairs-needed s) (length pairs)
+
+pub decides-plan-room : (s : Sheet) (lent : PlanAreas) → Decides (PlanRoom s lent) (plan-room s (length (lent .trains)) (length (lent .times)))
+decides-plan-room s lent =
+    decides-iff (λ x. record { trains = x .0; times = x .1 }) (λ x. (x .trains, x .times))
+    (decides-and (decides-le (s .orders) (length (lent .trains))) (decides-le (times-needed s) (length (lent .times))))
 
 -- two numbers a pair
 pub pair-numbers-length : (pairs : List Pair) → length (pair-numbers pairs) ≡ numbers-a-pair * length pairs
@@ -48,28 +53,66 @@ time-numbers-length departure arrival (suc q) = simp (length-append, time-number
 
 -- ---- a refused call: "always with 0 returned and every lent area as found"
 
-pub plan-returns : (s : Sheet) → returnedOf (reply (plan s)) ≡ 0
-unfolding plan answer reply
-plan-returns s = go (search s)
+-- whether a call's answer refuses, and why
+abbrev of-answer : {A : Type 0} → Answer A → Admission
+of-answer (refused r) = tests.Refused r
+of-answer (given x) = tests.Granted
+
+-- where the answer of the rounds returns 0 the call's answer does
+tested-returns : {A : Type 0} (s : Sheet) (room : Bool) (x : Answer A) → returnedOf (of-answer x) ≡ 0
+    → returnedOf (of-answer (after-tests (tested s room) x)) ≡ 0
+unfolding tested after-admission after-tests
+tested-returns s room x z = go (admission s) refl
   where
-    go : (x : Search) → returnedOf (reply (answer x)) ≡ 0
+    long : (b : Bool) → returnedOf (of-answer (after-tests (cond b tests.Granted (tests.Refused AreaTooShort)) x)) ≡ 0
+    long true = z
+    long false = refl
+
+    go : (a : Admission) → admission s ≡ a → returnedOf (of-answer (after-tests (after-admission room a) x)) ≡ 0
+    go tests.Granted u = long room
+    go (tests.Refused r) u = admission-returns r s u
+
+-- what each call returns is whether its answer refuses
+listing-told : (x : Answer Listing) → of-listing (list-reply x) ≡ of-answer x
+unfolding list-reply
+listing-told (refused r) = refl
+listing-told (given l) = refl
+
+choice-told : (x : Answer Entry) → of-choice (choice-reply x) ≡ of-answer x
+unfolding choice-reply
+choice-told (refused r) = refl
+choice-told (given e) = refl
+
+pub list-returns : (s : Sheet) (lent : List ℤ) → returnedOf (of-listing (list-reply (list-to s lent))) ≡ 0
+unfolding list-to list list-of
+list-returns s lent = ap returnedOf (listing-told (list-to s lent)) ∙ tested-returns s (list-room s (length lent)) (list s) (go (search s))
+  where
+    go : (x : Search) → returnedOf (of-answer (list-of x)) ≡ 0
     go (going c latest y recorded) = refl
     go (ended c []) = refl
     go (ended c (e ∷ es)) = refl
 
-pub answer-returns : (s : Sheet) (lent : Areas) → returnedOf (reply (answer-to s lent)) ≡ 0
-unfolding answer-to answer-after reply
-answer-returns s lent = go (admission s) refl
+pub choice-returns : (s : Sheet) (wish : ℕ) (lent : PlanAreas) → returnedOf (of-choice (choice-reply (choose-to s wish lent))) ≡ 0
+unfolding choose-to choose choice-of chosen
+choice-returns s wish lent =
+    ap returnedOf (choice-told (choose-to s wish lent))
+    ∙ tested-returns s (plan-room s (length (lent .trains)) (length (lent .times))) (choose s wish) (go (search s))
   where
-    long : (b : Bool) → returnedOf (reply (cond b (plan s) (refused AreaTooShort))) ≡ 0
-    long true = plan-returns s
-    long false = refl
+    timely : (b : Bool) (e : Entry) (r : Refusal) → returned r ≡ 0 → returnedOf (of-answer (cond b (given e) (refused r))) ≡ 0
+    timely true e r z = refl
+    timely false e r z = z
 
-    go : (a : Admission) → admission s ≡ a → returnedOf (reply (answer-after s lent a)) ≡ 0
-    go tests.Granted u = long (long-enough s lent)
-    go (tests.Refused r) u = admission-returns r s u
+    go : (x : Search) → returnedOf (of-answer (choice-of wish x)) ≡ 0
+    go (going c latest y recorded) = refl
+    go (ended c []) = refl
+    go (ended c (e ∷ es)) = timely (in-time wish e) _ _ refl
 
-pub areas-as-found : (s : Sheet) (x : Answer) (found : Areas) → 1 ≤ numberOf (reply x) → areas-after s x found ≡ found
-unfolding reply areas-after
-areas-as-found s (refused r) found l = refl
-areas-as-found s (planned pairs x c) found l = absurd (omega arith)
+pub list-as-found : (x : Answer Listing) (found : List ℤ) → 1 ≤ numberOf (of-listing (list-reply x)) → list-left x found ≡ found
+unfolding list-reply list-left
+list-as-found (refused r) found l = refl
+list-as-found (given x) found l = absurd (omega arith)
+
+pub plan-as-found : (s : Sheet) (x : Answer Entry) (found : PlanAreas) → 1 ≤ numberOf (of-choice (choice-reply x)) → plan-left s x found ≡ found
+unfolding choice-reply plan-left
+plan-as-found s (refused r) found l = refl
+plan-as-found s (given e) found l = absurd (omega arith)

@@ -1,4 +1,4 @@
--- DOCUMENT 01, "LENT MEMORY": WHAT A PLANNING CALL ANSWERS, AND WHAT EACH LENT AREA THEN HOLDS.
+-- DOCUMENT 01, "LENT MEMORY", AND DOCUMENT 02, NO. 1: WHAT EACH PLANNING CALL ANSWERS, AND WHAT EACH LENT AREA THEN HOLDS.
 use mathlib.Core.Bool.{Bool, _&&_, cond}
 use mathlib.Core.List.{List, [], _∷_, _++_}
 use Prim.Native.Nat.{ℕ, zero, suc, _*_, _≤_}
@@ -12,70 +12,104 @@ use Rattle.model.specs.Limits.{numbers-a-pair, numbers-a-train}
 use Rattle.model.specs.Lateness.{Pair}
 use Rattle.model.specs.Admission.{admission}
 use Rattle.model.specs.declared.Admission.{Admission}
-use Rattle.model.specs.declared.Admission.the-variants as tests
+use Rattle.model.specs.declared.Admission.the-variants.{Granted, Refused}
 use Rattle.model.specs.declared.Refusal.the-variants.{AreaTooShort}
-use Rattle.model.specs.declared.Reply.{Reply}
-use Rattle.model.specs.declared.Reply.the-variants.{Planned, Refused}
-use Rattle.rounds.specs.Rounds.{Answer, refused, planned, plan}
+use Rattle.model.specs.declared.ListReply.{ListReply}
+use Rattle.model.specs.declared.ListReply.the-variants as listing
+use Rattle.model.specs.declared.ChoiceReply.{ChoiceReply}
+use Rattle.model.specs.declared.ChoiceReply.the-variants as choosing
+use Rattle.rounds.specs.Recording.{Entry}
+use Rattle.rounds.specs.Answers.{Answer, refused, given, Listing, list, choose}
 
--- "three lent areas": pairs, two numbers each (last arrival, worst weighted lateness); the train of each order; the times of each train, two
--- numbers each (departure, arrival)
-pub record Areas : Type 0 where
-  pub pairs : List ℤ
-  pub trains : List ℕ
-  pub times : List ℕ
+-- ---- test 10: "Each call tests under 10 only the areas that it fills."
 
--- ---- the answer
-
--- test 10: "pairs (at least n × q), train of order (at least n), times of train (at least q)", as a proposition and as a test
+-- "pairs (at least n × q)", two numbers each: last arrival, worst weighted lateness
 abbrev pub pairs-needed : Sheet → ℕ
 pairs-needed s = numbers-a-pair * (s .orders * s .trains)
 
+-- "times of train (at least q)", two numbers each: departure, arrival
 abbrev pub times-needed : Sheet → ℕ
 times-needed s = numbers-a-train * s .trains
 
-pub record LongEnough (s : Sheet) (lent : Areas) : Type 0 where
-  pub pairs : pairs-needed s ≤ length (lent .pairs)
+-- the area that the listing call fills, as a proposition and, of its length, as a test
+abbrev pub ListRoom : Sheet → (pairs : List ℤ) → Type 0
+ListRoom s pairs = pairs-needed s ≤ length pairs
+
+abbrev pub list-room : Sheet → (pairs : ℕ) → Bool
+list-room s pairs = leb (pairs-needed s) pairs
+
+-- the areas that the choosing call fills: "train of order (at least n)", and times
+pub record PlanAreas : Type 0 where
+  pub trains : List ℕ
+  pub times : List ℕ
+
+pub record PlanRoom (s : Sheet) (lent : PlanAreas) : Type 0 where
   pub trains : s .orders ≤ length (lent .trains)
   pub times : times-needed s ≤ length (lent .times)
 
-abbrev pub long-enough : Sheet → Areas → Bool
-long-enough s lent =
-    leb (pairs-needed s) (length (lent .pairs)) && leb (s .orders) (length (lent .trains)) && leb (times-needed s) (length (lent .times))
+abbrev pub plan-room : Sheet → (trains times : ℕ) → Bool
+plan-room s trains times = leb (s .orders) trains && leb (times-needed s) times
 
--- "4, 5, 2, 6, 7, 10, then 8 or 9"
-unfoldable pub answer-after : Sheet → Areas → Admission → Answer
-unfolding plan
-answer-after s lent (tests.Refused r) = refused r
-answer-after s lent tests.Granted = cond (long-enough s lent) (plan s) (refused AreaTooShort)
+-- ---- the answers: "4, 5, 2, 6, 7, 10, then 8 or 9"
 
-unfoldable pub answer-to : Sheet → Areas → Answer
-unfolding answer-after admission
-answer-to s lent = answer-after s lent (admission s)
+-- 10 behind the others: where the areas that the call fills have room, or not
+unfoldable pub after-admission : (room : Bool) → Admission → Admission
+after-admission room Granted = cond room Granted (Refused AreaTooShort)
+after-admission room (Refused r) = Refused r
 
--- what the call returns of it: "how many pairs there are, and the count", or the refusal
-unfoldable pub reply : Answer → Reply
-reply (refused r) = Refused r
-reply (planned pairs plan rounds) = Planned (length pairs) rounds
+-- the tests before the rounds
+unfoldable pub tested : Sheet → (room : Bool) → Admission
+unfolding admission after-admission
+tested s room = after-admission room (admission s)
 
--- ---- the areas
+-- the first test that fails, else what the rounds answer
+unfoldable pub after-tests : {A : Type 0} → Admission → Answer A → Answer A
+after-tests Granted x = x
+after-tests (Refused r) x = refused r
+
+unfoldable pub list-to : Sheet → (lent : List ℤ) → Answer Listing
+unfolding tested after-tests list
+list-to s lent = after-tests (tested s (list-room s (length lent))) (list s)
+
+unfoldable pub choose-to : Sheet → (wish : ℕ) → (lent : PlanAreas) → Answer Entry
+unfolding tested after-tests choose
+choose-to s wish lent = after-tests (tested s (plan-room s (length (lent .trains)) (length (lent .times)))) (choose s wish)
+
+-- ---- what the calls return of them
+
+-- "how many pairs there are, and the count", or the refusal
+unfoldable pub list-reply : Answer Listing → ListReply
+list-reply (refused r) = listing.Refused r
+list-reply (given l) = listing.Listed (length (l .pairs)) (l .rounds)
+
+-- the pair that was chosen, or the refusal
+unfoldable pub choice-reply : Answer Entry → ChoiceReply
+choice-reply (refused r) = choosing.Refused r
+choice-reply (given e) = choosing.Chosen (e .pair .last) (e .pair .worst)
+
+-- ---- what they leave: of a refusal "every lent area as found", else the front of each is written, and the rest is as found
 
 unfoldable pub pair-numbers : List Pair → List ℤ
 pair-numbers [] = []
 pair-numbers (p ∷ ps) = pos (p .last) ∷ p .worst ∷ pair-numbers ps
+
+-- "the listed pairs"
+unfoldable pub list-left : Answer Listing → (found : List ℤ) → List ℤ
+unfolding pair-numbers
+list-left (refused r) found = found
+list-left (given l) found = over (pair-numbers (l .pairs)) found
 
 -- "q departures with arrivals"
 unfoldable pub time-numbers : (departure arrival : List ℕ) → ℕ → List ℕ
 time-numbers departure arrival zero = []
 time-numbers departure arrival (suc i) = time-numbers departure arrival i ++ (nth departure (suc i) ∷ nth arrival (suc i) ∷ [])
 
--- the areas after the answer: of a refusal "every lent area as found"
-unfoldable pub areas-after : Sheet → Answer → (found : Areas) → Areas
-unfolding pair-numbers time-numbers
-areas-after s (refused r) found = found
-areas-after s (planned pairs plan rounds) found =
+-- "n trains; q departures with arrivals"
+unfoldable pub plan-left : Sheet → Answer Entry → (found : PlanAreas) → PlanAreas
+unfolding time-numbers
+plan-left s (refused r) found = found
+plan-left s (given e) found =
     record {
-      pairs = over (pair-numbers pairs) (found .pairs);
-      trains = over (plan .train) (found .trains);
-      times = over (time-numbers (plan .departure) (plan .arrival) (s .trains)) (found .times);
+      trains = over (e .plan .train) (found .trains);
+      times = over (time-numbers (e .plan .departure) (e .plan .arrival) (s .trains)) (found .times);
     }

@@ -8,22 +8,27 @@ use Rattle.model.specs.Cases.{cases, case-a}
 use Rattle.rounds.specs.Loading.{load}
 use Rattle.rounds.specs.Timing.{first-window}
 use Rattle.rounds.specs.Lowering.{latest-below}
-use Rattle.rounds.specs.Areas.{answer-to, areas-after}
-use Rattle.rounds.specs.Cases.{computed, stated, lent}
+use Rattle.rounds.specs.Answers.{last-arrival-in}
+use Rattle.rounds.specs.Areas.{list-to, choose-to, list-left, plan-left}
+use Rattle.rounds.specs.Cases.{computed-lists, stated-lists, computed-plans, stated-plans, computed-wishes, stated-wishes, lent-pairs, lent}
 
--- CASES a TO i
-pub cases-are : computed ≡ stated
-unfolding computed stated cases
-cases-are = refl
+-- CASES a TO i: the lists, the plans for the last listed arrival, and case a at other wishes
+pub record CasesAre : Type 0 where
+  pub lists : computed-lists ≡ stated-lists
+  pub plans : computed-plans ≡ stated-plans
+  pub wishes : computed-wishes ≡ stated-wishes
+
+pub cases-are : CasesAre
+unfolding computed-lists stated-lists computed-plans stated-plans computed-wishes stated-wishes cases last-arrival-in
+cases-are = record { lists = refl; plans = refl; wishes = refl }
 
 -- what case a leaves in the areas: the front of each is written, and the rest is as found
-pub case-a-leaves : areas-after case-a (answer-to case-a lent) lent ≡
-    record {
-      pairs = pos 110 ∷ pos 150 ∷ pos 130 ∷ pos 70 ∷ replicate 10 (pos 7);
-      trains = 2 ∷ 1 ∷ 2 ∷ 9 ∷ [];
-      times = 40 ∷ 70 ∷ 100 ∷ 130 ∷ 9 ∷ [];
-    }
-unfolding answer-to areas-after
+pub case-a-lists : list-left (list-to case-a lent-pairs) lent-pairs ≡ (pos 110 ∷ pos 150 ∷ pos 130 ∷ pos 70 ∷ replicate 10 (pos 7))
+unfolding list-to list-left
+case-a-lists = refl
+
+pub case-a-leaves : plan-left case-a (choose-to case-a 130 lent) lent ≡ record { trains = 2 ∷ 1 ∷ 2 ∷ 9 ∷ []; times = 40 ∷ 70 ∷ 100 ∷ 130 ∷ 9 ∷ [] }
+unfolding choose-to plan-left
 case-a-leaves = refl
 
 -- ---- "What students write", as facts of single steps

@@ -15,6 +15,7 @@ use Rattle.model.specs.Lateness.{Pair, pairOf, AtLeastAsGood}
 use Rattle.model.specs.Admission.{Admitted}
 use Rattle.rounds.specs.Recording.{Entry, record-entry, listed, no-pair}
 use Rattle.rounds.specs.RecordingLaws.{record-same, record-other, listed-behind}
+use Rattle.rounds.specs.EntryPlan.{EntryPlan}
 use Rattle.rounds.specs.Rounds.{above-everything}
 use Rattle.rounds.specs.PairListLaws.{Before, Rising, rising-more}
 use Rattle.rounds.specs.ScheduleLaws.{below-everything}
@@ -28,6 +29,10 @@ module _ (s : Sheet) where
   abbrev pub Belongs : Pair → Type 0
   Belongs p = (train : List ℕ) × (departure : List ℕ) × Schedule s train departure × (pairOf s train departure ≡ p)
 
+  -- an entry's pair is that of its plan
+  pub belongs-to : (e : Entry) → EntryPlan s e → Belongs (e .pair)
+  belongs-to e h = (e .plan .train, e .plan .departure, h .schedule, h .pair)
+
   -- no schedule below the limit y arrives before p
   abbrev pub Soonest : ℤ → Pair → Type 0
   Soonest y p =
@@ -37,6 +42,11 @@ module _ (s : Sheet) where
   abbrev pub Matched : ℤ → List Pair → Type 0
   Matched y pairs =
       (train departure : List ℕ) → Schedule s train departure → y ≤ℤ pairOf s train departure .worst → Some no-pair (Matches s train departure) pairs
+
+  -- so a schedule's pair that is better than p₀, before which no better one arrives, does not arrive before it
+  pub not-before : (p₀ : Pair) → Soonest (p₀ .worst) p₀ → (p : Pair) → Belongs p → p .worst <ℤ p₀ .worst → p₀ .last ≤ p .last
+  not-before p₀ ahead p (train, departure, h, e) better =
+      subst (λ (v : Pair). p₀ .last ≤ v .last) e (ahead train departure h (subst (λ (v : Pair). v .worst <ℤ p₀ .worst) (sym e) better))
 
   -- p is the pair listed last, and the limit is its worst lateness
   pub record FrontSoFar (before : List Pair) (p : Pair) : Type 0 where
@@ -74,9 +84,7 @@ module _ (s : Sheet) where
       better₀ = subst (λ (v : ℤ). p .worst <ℤ v) limit better
 
       no-sooner : p₀ .last ≤ p .last
-      no-sooner =
-          let (train, departure, h, e) = own in
-          subst (λ (v : Pair). p₀ .last ≤ v .last) e (H .ahead train departure h (subst (λ (v : Pair). v .worst <ℤ p₀ .worst) (sym e) better₀))
+      no-sooner = not-before p₀ (H .ahead) p own better₀
 
       matched₀ : Matched y (before ++ (p₀ ∷ []))
       matched₀ train departure h l = H .covers train departure h (subst (λ (v : ℤ). v ≤ℤ pairOf s train departure .worst) limit l)

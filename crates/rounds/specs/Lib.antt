@@ -10,6 +10,8 @@ pub mod LoweringLaws
 pub mod Rounds
 pub mod RoundsBound
 pub mod RoundsLaws
+pub mod Answers
+pub mod ListLaws
 pub mod Areas
 pub mod AreaLaws
 pub mod Told
@@ -24,5 +26,11 @@ pub mod ScheduleLaws
 pub mod FrontSoFarLaws
 pub mod OneRoundLaws
 pub mod InvariantLaws
+pub mod InTimeLaws
+pub mod ArrivalLaws
+pub mod EndLaws
 pub mod AnswerLaws
+pub mod ChoiceLaws
+pub mod ChosenLaws
+pub mod ChoosingLaws
 pub mod SizeLaws

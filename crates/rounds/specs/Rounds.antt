@@ -1,6 +1,6 @@
--- DOCUMENT 01, "THE ROUNDS": A ROUND, THE ROUNDS, THE ANSWER.
+-- DOCUMENT 01, "THE ROUNDS": A ROUND, AND THE ROUNDS.
 use mathlib.Core.Bool.{cond}
-use mathlib.Core.List.{List, [], _∷_}
+use mathlib.Core.List.{List, []}
 use Prim.Native.Nat.{ℕ, zero, suc, _*_}
 use lib.IntN.{ℤ, pos}
 use lib.ListN.{replicate}
@@ -8,12 +8,10 @@ use lib.Signed.{ltZ}
 use Rattle.numbers.specs.Counting.{nth}
 use Rattle.model.specs.Sheet.{Sheet}
 use Rattle.model.specs.Limits.{first-limit}
-use Rattle.model.specs.Lateness.{Pair, greatest-lateness, worst}
-use Rattle.model.specs.declared.Refusal.{Refusal}
-use Rattle.model.specs.declared.Refusal.the-variants.{NoSchedule, RoundLimit}
+use Rattle.model.specs.Lateness.{greatest-lateness, worst}
 use Rattle.rounds.specs.Loading.{load}
 use Rattle.rounds.specs.Timing.{ready, Timed, stopped, timed, timing}
-use Rattle.rounds.specs.Recording.{Plan, Entry, record-entry, listed, last-entry, last-plan}
+use Rattle.rounds.specs.Recording.{Plan, Entry, record-entry}
 use Rattle.rounds.specs.Lowering.{lower, crowded}
 
 -- Between rounds: how many were made ("the number of loadings made, the stopping one included"), each order's latest train, the limit y, and what
@@ -90,19 +88,3 @@ rounds s (suc k) x = rounds s k (round s x)
 unfoldable pub search : Sheet → Search
 unfolding rounds start
 search s = rounds s (s .orders * s .trains) (start s)
-
-pub data Answer : Type 0 where
-  refused : Refusal → Answer
-  planned : (pairs : List Pair) (plan : Plan) (rounds : ℕ) → Answer
-
--- "there the limit cuts the rounds off, and that is refusal 9"; "no schedule (step 2 stops round 1)" is 8; else "the pairs in order of arrival",
--- "the last recorded plan .. and the count"
-unfoldable pub answer : Search → Answer
-unfolding listed last-entry
-answer (going c latest y recorded) = refused RoundLimit
-answer (ended c []) = refused NoSchedule
-answer (ended c (e ∷ es)) = planned (listed (e ∷ es)) (last-plan (e ∷ es)) c
-
-unfoldable pub plan : Sheet → Answer
-unfolding answer search
-plan s = answer (search s)

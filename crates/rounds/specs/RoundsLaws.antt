@@ -1,13 +1,12 @@
--- Laws of rounds in a row, and of the answer at their end. Assumes nothing.
+-- Laws of rounds in a row, and of the search at their end. Assumes nothing.
 use mathlib.Core.Path.{_≡_, refl, ap, _∙_}
-use mathlib.Core.List.{List, [], _∷_}
+use mathlib.Core.List.{List}
 use Prim.Native.Nat.{ℕ, zero, suc, _+_, _-_, _*_, _≤_}
 use native.Mathlib.Numerals.{add-one}
 use native.Mathlib.Omega.{arith}
-use lib.ListN.{length}
 use Rattle.model.specs.Sheet.{Sheet}
-use Rattle.rounds.specs.Recording.{Entry, listed, last-plan}
-use Rattle.rounds.specs.Rounds.{Search, ended, start, round, rounds, search, planned, answer, plan}
+use Rattle.rounds.specs.Recording.{Entry}
+use Rattle.rounds.specs.Rounds.{Search, ended, start, round, rounds, search}
 
 module _ (s : Sheet) where
   -- after the end further rounds change nothing
@@ -33,16 +32,9 @@ module _ (s : Sheet) where
       let e : suc k + j ≡ suc (k + j) = omega arith in ap (λ (m : ℕ). rounds s m x) e ∙ rounds-further k j (round s x)
 
   -- a search that ended within the limit is the whole search
-  pub plan-at-end : (k c : ℕ) (recorded : List Entry) → k ≤ s .orders * s .trains → rounds s k (start s) ≡ ended c recorded
-      → plan s ≡ answer (ended c recorded)
-  unfolding plan search
-  plan-at-end k c recorded l e =
+  pub search-at-end : (k c : ℕ) (recorded : List Entry) → k ≤ s .orders * s .trains → rounds s k (start s) ≡ ended c recorded → search s ≡ ended c recorded
+  unfolding search
+  search-at-end k c recorded l e =
       let j : ℕ = s .orders * s .trains - k in
       let m : s .orders * s .trains ≡ k + j = omega arith in
-      ap answer (ap (λ (m : ℕ). rounds s m (start s)) m ∙ rounds-further k j (start s) ∙ ap (rounds s j) e ∙ rounds-ended j c recorded)
-
--- where an entry is recorded the answer is the listed pairs, the last plan and the count
-pub answer-planned : (c : ℕ) (recorded : List Entry) → 1 ≤ length recorded → answer (ended c recorded) ≡ planned (listed recorded) (last-plan recorded) c
-unfolding answer
-answer-planned c [] l = absurd (omega arith)
-answer-planned c (e ∷ es) l = refl
+      ap (λ (m : ℕ). rounds s m (start s)) m ∙ rounds-further k j (start s) ∙ ap (rounds s j) e ∙ rounds-ended j c recorded

@@ -1,9 +1,6 @@
-pub mod StepsOf
-pub mod StepsLaws
 pub mod Shows
 pub mod ShowsLaws
 pub mod Parts
 pub mod PartsLaws
 pub mod RoundLaws
-pub mod Outcome
 pub mod RunLaws

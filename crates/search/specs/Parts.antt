@@ -1,29 +1,35 @@
--- What holds where a round is begun, and the plan that it makes.
-use mathlib.Core.Bool.{false}
-use mathlib.Core.List.{List}
-use Prim.Native.Nat.{ℕ, _*_, _<_}
+-- What holds where a round is begun, and what its parts leave in the progress r of the progress p.
+use mathlib.Core.Path.{_≡_}
+use mathlib.Core.Bool.{cond}
+use Prim.Native.Nat.{ℕ, _+_, _<_}
+use lib.IntN.{ℤ}
 use lib.ListN.{take}
+use lib.Signed.{ltZ}
 use Rattle.model.specs.Sheet.{Sheet}
 use Rattle.model.specs.Limits.{most-pairs}
-use Rattle.rounds.specs.Recording.{Plan}
+use Rattle.rounds.specs.Lowering.{lower, crowded}
 use Rattle.rounds.specs.Rounds.{loading}
 use Rattle.columns.specs.Columns.{UpTo, Loaded}
 use Rattle.loading.specs.Ranks.{Ordered}
-use Rattle.timing.specs.declared.Times.{Times}
 use Rattle.search.specs.declared.Progress.{Progress}
 
--- the latest trains are the sheet's and load every order, and there is room for a pair
+-- the latest trains are the sheet's and load every order
 pub record Begun (s : Sheet) (p : Progress) : Type 0 where
   pub ordered : Ordered s (p .order)
   pub latest : UpTo (s .trains) (s .orders) (p .latest)
   pub loads : Loaded s (loading s (take (s .orders) (p .latest)))
-  pub pairs : p .pairs < s .orders * s .trains
   pub rounds : p .rounds < most-pairs
 
--- the plan in memory of a loading and its times, of n orders and q trains
-abbrev pub plan-of : Sheet → (train : List ℕ) → Times → Plan
-plan-of s train t = record { train = take (s .orders) train; departure = take (s .trains) (t .departure); arrival = take (s .trains) (t .arrival) }
+-- the orders stay as they are, and the round counts
+abbrev pub Counted : (p r : Progress) → Type 0
+Counted p r = (r .order ≡ p .order) × (r .rounds ≡ p .rounds + 1)
 
--- the progress between steps 3 and 4, where r has what step 3 changes in p: the round is not counted yet
-abbrev pub between : (p r : Progress) → Progress
-between p r = record { order = p .order; latest = p .latest; limit = r .limit; last = r .last; pairs = r .pairs; rounds = p .rounds; ended = false }
+-- step 3 of a plan with the worst lateness z and the last arrival f: whether it is better; then they are the limit and the arrival recorded last
+abbrev pub Graded : (p r : Progress) (z : ℤ) (f : ℕ) → Type 0
+Graded p r z f = (r .better ≡ ltZ z (p .limit)) × (r .limit ≡ cond (r .better) z (p .limit)) × (r .last ≡ cond (r .better) f (p .last))
+
+-- steps 4 and 5, where train i arrives at F i
+abbrev pub Settled : Sheet → (p r : Progress) (F : ℕ → ℕ) → Type 0
+Settled s p r F =
+    (take (s .orders) (r .latest) ≡ lower (s .orders) (s .weight) (s .due) F (r .limit) (take (s .orders) (p .latest)))
+    × (r .ended ≡ crowded (s .orders) (s .capacity) (take (s .orders) (r .latest)) (s .trains))

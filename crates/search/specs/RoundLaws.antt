@@ -1,92 +1,131 @@
--- A round of the code is a round of document 01. Assumes nothing.
+-- A round of the code is a round of document 01: step 2 stops it, or it goes through all steps. Assumes nothing.
 use mathlib.Core.Path.{_≡_, refl, sym, ap, _∙_, subst}
-use mathlib.Core.Bool.{true, false}
+use mathlib.Core.Bool.{Bool, true, false, cond}
 use mathlib.Core.List.{List}
-use Prim.Native.Nat.{ℕ, suc, _-_}
+use Prim.Native.Nat.{ℕ, suc}
 use native.Mathlib.Omega.{arith}
-use native.Mathlib.Nat.{mul-le-mul}
+use lib.IntN.{ℤ}
 use lib.ListN.{take}
-use lib.Seq.{getD-take}
-use Rattle.numbers.specs.Counting.{at, nth}
+use Rattle.numbers.specs.Counting.{nth}
 use Rattle.model.specs.Sheet.{Sheet}
-use Rattle.model.specs.Limits.{last-arrival}
-use Rattle.model.specs.Admission.{Admitted}
-use Rattle.rounds.specs.Timing.{ready, stopped, timed}
-use Rattle.rounds.specs.Recording.{Plan}
-use Rattle.rounds.specs.Rounds.{Search, ended, start, loading, times, round, rounds}
-use Rattle.rounds.specs.Areas.{Areas}
-use Rattle.rounds.specs.ScheduleLaws.{timed-within}
-use Rattle.rounds.specs.OneRoundLaws.{Going, every-order-loaded}
-use Rattle.rounds.specs.InvariantLaws.{reached}
-use Rattle.columns.specs.Columns.{UpTo}
-use Rattle.timing.specs.Timed.{timed-in}
-use Rattle.timing.specs.declared.Times.{Times}
-use Rattle.search.specs.StepsOf.{halted, graded, settled}
-use Rattle.search.specs.StepsLaws.{round-halts, round-goes}
-use Rattle.search.specs.Shows.{state, Stands, goes-on, has-ended, Shows, Leads, LeadsIn, LeadsAny, Reached}
+use Rattle.model.specs.Lateness.{worst}
+use Rattle.rounds.specs.Timing.{Timed, stopped, timed}
+use Rattle.rounds.specs.Recording.{Plan, Entry, record-entry, recorded-arrival}
+use Rattle.rounds.specs.RecordingLaws.{arrival-recorded}
+use Rattle.rounds.specs.Lowering.{lower, crowded}
+use Rattle.rounds.specs.Rounds.{Search, going, ended, recorded-in, loading, times, settle, grade, depart, round}
+use Rattle.search.specs.Shows.{Stands, goes-on, has-ended, Shows, shown-entry, recorded-by, RoundMade, Makes}
 use Rattle.search.specs.ShowsLaws.{one-outcome}
-use Rattle.search.specs.Parts.{Begun, plan-of}
+use Rattle.search.specs.Parts.{Counted, Graded, Settled}
 use Rattle.search.specs.declared.Progress.{Progress}
 
-pub begun : (s : Sheet) → Admitted s → (p : Progress) (lent : Areas) → Reached s (state p lent) → p .ended ≡ false → Begun s p
-begun s a p lent R on = go (rounds s (R .made) (start s)) refl (R .shows) (R .shows .stands)
-  where
-    go : (x : Search) → rounds s (R .made) (start s) ≡ x → Shows s (state p lent (R .found)) x → Stands (s .orders) p x → Begun s p
-    go x e h (has-ended f c) = one-outcome f on
-    go x e h (goes-on {c = c} {latest = latest} {y = y} {recorded = recorded} f made l v) =
-        let g : Going s (R .made) c latest y recorded = reached s a (R .made) c latest y recorded e in
-        let most = mul-le-mul (a .few .orders) (a .few .trains) in
-        record {
-          ordered = h .ordered;
-          latest = λ j u. rw (ap (λ (m : List ℕ). at m j) (sym l) ∙ getD-take (s .orders) (p .latest) j 0 u) at (g .upto j u);
-          loads = rw l (every-order-loaded s a (R .made) c latest y recorded g);
-          pairs = omega (arith, h .list .count-is, g .on-record .few, g .counted, R .within);
-          rounds = omega (arith, made, g .counted, R .within);
-        }
+-- the progress p goes on, and r is left of it
+module _ (s : Sheet) (p r : Progress) (on : p .ended ≡ false) (counted : Counted p r) where
+  abbrev made : ℕ
+  made = suc (p .rounds)
 
--- a plan that was made arrives in time
-pub made-in-time : (s : Sheet) → Admitted s → (train : List ℕ) (t : Times) → timed-in (s .trains) t ≡ times s train → t .runs ≡ true
-    → UpTo last-arrival (s .trains) (t .arrival)
-made-in-time s a train t e runs j l =
-    let D = take (s .trains) (t .departure) in
-    let F = take (s .trains) (t .arrival) in
-    let timing : times s train ≡ timed D F = sym (rw runs at e) in
-    let within = timed-within s a (ready (s .release) train (s .orders)) D F timing .2 (suc j) (omega arith) l in
-    let here : suc j - 1 ≡ j = omega arith in
-    rw (here, getD-take (s .trains) (t .arrival) j 0 l) at within
+  abbrev latest : List ℕ
+  latest = take (s .orders) (p .latest)
 
--- a round of a search that goes on, which has loaded and timed the trains
-module _ (s : Sheet) (p : Progress) (lent : Areas) (on : p .ended ≡ false) (train : List ℕ) (t : Times)
-    (loads : take (s .orders) train ≡ loading s (take (s .orders) (p .latest))) (times-are : timed-in (s .trains) t ≡ times s (take (s .orders) train)) where
-  timing-of : (latest : List ℕ) → take (s .orders) (p .latest) ≡ latest → times s (loading s latest) ≡ timed-in (s .trains) t
-  timing-of latest l = ap (times s) (ap (loading s) (sym l) ∙ sym loads) ∙ sym times-are
+  -- the search that p shows, where this is recorded
+  abbrev shown : List Entry → Search
+  shown recorded = going (p .rounds) latest (p .limit) recorded
 
-  -- step 2 stops it
-  pub round-stopped : t .runs ≡ false → (r : Progress) → LeadsAny p r halted → Leads s (state p lent) (state r lent) (round s)
-  round-stopped none r halts found x h = go x (h .stands) h
+  one-more : r .rounds ≡ made
+  one-more = omega (arith, counted .1)
+
+  -- what the round makes of that search
+  record Next (recorded : List Entry) : Type 0 where
+    search : Search
+    is : round s (shown recorded) ≡ search
+    stands : Stands (s .orders) r search
+    records : recorded-in search ≡ recorded-by s r recorded
+    last : p .last ≡ recorded-arrival recorded → r .last ≡ recorded-arrival (recorded-by s r recorded)
+
+  makes : ((recorded : List Entry) → Next recorded) → Makes s p r
+  makes next x h = go x (h .stands) h
     where
-      go : (x : Search) → Stands (s .orders) p x → Shows s (state p lent found) x → Shows s (state r lent found) (round s x)
-      go x (has-ended f e) h = one-outcome f on
-      go x (goes-on {c = c} {latest = latest} {y = y} {recorded = recorded} f e l v) h =
-          let stops : times s (loading s latest) ≡ stopped = rw none at (timing-of latest l) in
-          subst (λ (z : Search). Shows s (state r lent found) z) (sym (round-halts s c latest y recorded stops)) (halts s lent found x h)
+      go : (x : Search) → Stands (s .orders) p x → Shows s p x → RoundMade s r x
+      go x (has-ended e c) h = one-outcome e on
+      go x (goes-on {recorded = recorded} e c l y) h =
+          let n = next recorded in
+          let shows : Shows s r (n .search) =
+          record { ordered = rw (counted .0) (h .ordered); stands = n .stands; last = n .last (h .last) ∙ ap recorded-arrival (sym (n .records)) } in
+          rw (← c, ← l, ← y) (record { shows = subst (Shows s r) (sym (n .is)) shows; records = ap recorded-in (n .is) ∙ n .records })
 
-  -- steps 3 to 5, with the progress g between them
-  pub round-made : t .runs ≡ true → (left : Areas) (g r : Progress)
-      → Leads s (state p lent) (state g left) (graded s (plan-of s train t)) → LeadsIn s g r (settled s (nth (plan-of s train t .arrival)))
-      → Leads s (state p lent) (state r left) (round s)
-  round-made is left g r grades settles found x h = go x (h .stands) h
+  departs : (recorded : List Entry) (t : Timed) → times s (loading s latest) ≡ t
+      → round s (shown recorded) ≡ depart s made latest (p .limit) recorded (loading s latest) t
+  unfolding round
+  departs recorded t e = rw e
+
+  -- STEP 2 STOPS IT
+  pub round-stopped : times s (loading s latest) ≡ stopped → r .better ≡ false → r .last ≡ p .last → r .ended ≡ true → Makes s p r
+  unfolding depart
+  round-stopped stops better last over =
+      makes (λ recorded.
+      record {
+        search = ended made recorded;
+        is = departs recorded stopped stops;
+        stands = has-ended over one-more;
+        records = rw better;
+        last = λ e. rw better (last ∙ e);
+      })
+
+  -- the plan that the round leaves, its arrivals and its worst lateness
+  abbrev plan : Plan
+  plan = shown-entry s r .plan
+
+  abbrev F : ℕ → ℕ
+  F = nth (plan .arrival)
+
+  abbrev z : ℤ
+  z = worst s (plan .train) F
+
+  -- step 3
+  module _ (graded : Graded p r z (F (s .trains))) (recorded : List Entry) where
+    grades : grade s made latest (p .limit) recorded plan ≡ settle s made latest (r .limit) (recorded-by s r recorded) F
+    unfolding grade
+    grades = rw (← (graded .0)) (go (r .better) (graded .1) (graded .2))
+      where
+        go : (b : Bool) → r .limit ≡ cond b z (p .limit) → r .last ≡ cond b (F (s .trains)) (p .last)
+            → cond b (settle s made latest z (record-entry recorded (record { pair = record { last = F (s .trains); worst = z }; plan = plan })) F)
+            (settle s made latest (p .limit) recorded F)
+            ≡ settle s made latest (r .limit) (cond b (record-entry recorded (shown-entry s r)) recorded) F
+        go true e f = rw (e, f)
+        go false e f = rw e
+
+    last-graded : p .last ≡ recorded-arrival recorded → r .last ≡ recorded-arrival (recorded-by s r recorded)
+    last-graded last-is = go (r .better) (graded .2)
+      where
+        go : (b : Bool) → r .last ≡ cond b (F (s .trains)) (p .last) → r .last ≡ recorded-arrival (cond b (record-entry recorded (shown-entry s r)) recorded)
+        go true e = sym (arrival-recorded recorded (shown-entry s r))
+        go false e = e ∙ last-is
+
+  -- steps 4 and 5
+  settles : Settled s p r F → (entries : List Entry) → let x = settle s made latest (r .limit) entries F in
+      Stands (s .orders) r x × (recorded-in x ≡ entries)
+  unfolding settle
+  settles settled entries = go (crowded (s .orders) (s .capacity) now (s .trains)) (rw (settled .0) at (settled .1))
     where
-      plan : Plan
-      plan = plan-of s train t
+      now : List ℕ
+      now = lower (s .orders) (s .weight) (s .due) F (r .limit) latest
 
-      go : (x : Search) → Stands (s .orders) p x → Shows s (state p lent found) x → Shows s (state r left found) (round s x)
-      go x (has-ended f e) h = one-outcome f on
-      go x (goes-on {c = c} {latest = latest} {y = y} {recorded = recorded} f e l v) h =
-          let loaded : loading s latest ≡ plan .train = ap (loading s) (sym l) ∙ sym loads in
-          let goes : times s (loading s latest) ≡ timed (plan .departure) (plan .arrival) = rw is at (timing-of latest l) in
-          let F = nth (plan .arrival) in
-          let same : round s x ≡ settled s F (graded s plan x) =
-          round-goes s c latest y recorded (plan .departure) (plan .arrival) goes
-          ∙ ap (λ (t : List ℕ). settled s F (graded s (record { train = t; departure = plan .departure; arrival = plan .arrival }) x)) loaded in
-          subst (λ (z : Search). Shows s (state r left found) z) (sym same) (settles left found _ (grades found x h))
+      go : (b : Bool) → r .ended ≡ b → let x = cond b (ended made entries) (going made now (r .limit) entries) in
+          Stands (s .orders) r x × (recorded-in x ≡ entries)
+      go true e = (has-ended e one-more, refl)
+      go false e = (goes-on e one-more (settled .0) refl, refl)
+
+  -- OR IT GOES THROUGH ALL STEPS
+  pub round-made : plan .train ≡ loading s latest → times s (loading s latest) ≡ timed (plan .departure) (plan .arrival) → Graded p r z (F (s .trains))
+      → Settled s p r F → Makes s p r
+  unfolding depart
+  round-made loads runs graded settled =
+      makes (λ recorded.
+      let (stands, records) = settles settled (recorded-by s r recorded) in
+      record {
+        search = settle s made latest (r .limit) (recorded-by s r recorded) F;
+        is = departs recorded _ runs ∙ rw (← loads) (grades graded recorded);
+        stands = stands;
+        records = records;
+        last = last-graded graded recorded;
+      })

@@ -1,27 +1,15 @@
--- WHAT THE CODE'S PROGRESS AND THE LENT AREAS SHOW OF A SEARCH of document 01's rounds. The list's part and the plan's part are apart.
+-- WHAT THE CODE'S PROGRESS SHOWS OF A SEARCH of document 01's rounds, and what a round leaves in it for its caller to record.
 use mathlib.Core.Path.{_≡_}
-use mathlib.Core.Bool.{true, false}
-use mathlib.Core.List.{List, [], _∷_}
-use Prim.Native.Nat.{ℕ, _*_, _≤_, _<_}
+use mathlib.Core.Bool.{true, false, cond}
+use mathlib.Core.List.{List}
+use Prim.Native.Nat.{ℕ, _*_, _<_}
 use lib.IntN.{ℤ}
-use lib.ListN.{length, take}
-use Rattle.numbers.specs.Over.{over}
+use lib.ListN.{take}
 use Rattle.model.specs.Sheet.{Sheet}
-use Rattle.rounds.specs.Recording.{Entry, last-plan}
-use Rattle.rounds.specs.Rounds.{Search, going, ended, recorded-in, start, rounds}
-use Rattle.rounds.specs.Areas.{Areas, time-numbers}
+use Rattle.rounds.specs.Recording.{Entry, record-entry, recorded-arrival}
+use Rattle.rounds.specs.Rounds.{Search, going, ended, recorded-in, start, round, rounds}
 use Rattle.loading.specs.Ranks.{Ordered}
-use Rattle.recording.specs.Recorded.{HeldList, held-list, Lists}
 use Rattle.search.specs.declared.Progress.{Progress}
-
--- where a search stands in memory: its progress, the lent areas, and the areas as found at its start
-pub record State : Type 0 where
-  pub progress : Progress
-  pub areas : Areas
-  pub found : Areas
-
-abbrev pub state : Progress → (areas found : Areas) → State
-state progress areas found = record { progress = progress; areas = areas; found = found }
 
 -- the rounds made, and while it goes on the latest trains of n orders and the limit
 pub data Stands (n : ℕ) (p : Progress) : Search → Type 0 where
@@ -29,45 +17,34 @@ pub data Stands (n : ℕ) (p : Progress) : Search → Type 0 where
       → Stands n p (going c latest y recorded)
   has-ended : {c : ℕ} {recorded : List Entry} → p .ended ≡ true → p .rounds ≡ c → Stands n p (ended c recorded)
 
--- the list's part
-abbrev pub list-in : State → HeldList
-list-in s = held-list (s .progress .pairs) (s .progress .last) (s .areas .pairs)
+pub record Shows (s : Sheet) (p : Progress) (x : Search) : Type 0 where
+  pub ordered : Ordered s (p .order)
+  pub stands : Stands (s .orders) p x
+  -- the arrival of the pair recorded last
+  pub last : p .last ≡ recorded-arrival (recorded-in x)
 
-abbrev pub ListShown : State → List Entry → Type 0
-ListShown s entries = Lists (s .found .pairs) (list-in s) entries
+-- the pair and the plan that the last round left in the progress
+abbrev pub shown-entry : Sheet → Progress → Entry
+shown-entry s p =
+    record {
+      pair = record { last = p .last; worst = p .limit };
+      plan = record { train = take (s .orders) (p .train); departure = take (s .trains) (p .departure); arrival = take (s .trains) (p .arrival) };
+    }
 
--- the plan's part: the times of q trains of the plan recorded last; nothing where nothing is recorded
-unfoldable pub plan-times : ℕ → List Entry → List ℕ
-unfolding time-numbers
-plan-times q [] = []
-plan-times q (e ∷ es) = time-numbers (last-plan (e ∷ es) .departure) (last-plan (e ∷ es) .arrival) q
+-- what is recorded after the last round: its plan too where it was better, else nothing more
+abbrev pub recorded-by : Sheet → Progress → List Entry → List Entry
+recorded-by s p entries = cond (p .better) (record-entry entries (shown-entry s p)) entries
 
-pub record PlanShown (s : Sheet) (st : State) (entries : List Entry) : Type 0 where
-  pub short : length (last-plan entries .train) ≤ s .orders
-  pub trains : st .areas .trains ≡ over (last-plan entries .train) (st .found .trains)
-  pub times : st .areas .times ≡ over (plan-times (s .trains) entries) (st .found .times)
+-- of the search x that was shown before it the round has made the next one, and left in the progress r what it recorded
+pub record RoundMade (s : Sheet) (r : Progress) (x : Search) : Type 0 where
+  pub shows : Shows s r (round s x)
+  pub records : recorded-in (round s x) ≡ recorded-by s r (recorded-in x)
 
-pub record Shows (s : Sheet) (st : State) (x : Search) : Type 0 where
-  pub ordered : Ordered s (st .progress .order)
-  pub stands : Stands (s .orders) (st .progress) x
-  pub list : ListShown st (recorded-in x)
-  pub plan : PlanShown s st (recorded-in x)
+abbrev pub Makes : Sheet → (before after : Progress) → Type 0
+Makes s p r = (x : Search) → Shows s p x → RoundMade s r x
 
--- whatever search was shown before, what f makes of it is shown after
-abbrev pub Leads : Sheet → (before after : (found : Areas) → State) → (f : Search → Search) → Type 0
-Leads s before after f = (found : Areas) (x : Search) → Shows s (before found) x → Shows s (after found) (f x)
-
--- the same where no area is written
-abbrev pub LeadsIn : Sheet → (before after : Progress) → (f : Search → Search) → Type 0
-LeadsIn s before after f = (lent : Areas) → Leads s (state before lent) (state after lent) f
-
--- and whatever the sheet
-abbrev pub LeadsAny : (before after : Progress) → (f : Search → Search) → Type 0
-LeadsAny before after f = (s : Sheet) → LeadsIn s before after f
-
--- the search after k rounds is shown, and a further round is within the limit
-pub record Reached (s : Sheet) (st : (found : Areas) → State) : Type 0 where
-  pub found : Areas
+-- the search after so many rounds is shown, and a further round is within the limit
+pub record Reached (s : Sheet) (p : Progress) : Type 0 where
   pub made : ℕ
   pub within : made < s .orders * s .trains
-  pub shows : Shows s (st found) (rounds s made (start s))
+  pub shows : Shows s p (rounds s made (start s))

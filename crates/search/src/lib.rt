@@ -1,17 +1,21 @@
-// The search: document 01's rounds on an admitted sheet, one at a time, from a start to what is told at their end.
-pub mod ends;
+// The search: document 01's rounds on an admitted sheet, one at a time. What a round records it leaves in the progress, for its caller to keep.
 pub mod round;
+pub mod start;
 
 use model::limits::MOST_ORDERS;
+use model::limits::MOST_TRAINS;
 
-// Where a search stands between rounds: the orders by rank, each order's latest train, the limit, the last arrival of the last pair, how many pairs are
-// listed and rounds made, and whether the search has ended.
+// Where a search stands between rounds: the orders by rank, and each order's latest train; the last round's loading and times, and whether that plan was
+// recorded (better than all before); the limit and the last arrival of the pair recorded last; how many rounds were made, and whether the search has ended.
 pub struct Progress {
     pub order: [u8; MOST_ORDERS],
     pub latest: [u8; MOST_ORDERS],
+    pub train: [u8; MOST_ORDERS],
+    pub departure: [u32; MOST_TRAINS],
+    pub arrival: [u32; MOST_TRAINS],
+    pub better: bool,
     pub limit: i64,
     pub last: u32,
-    pub pairs: usize,
     pub rounds: usize,
     pub ended: bool,
 }

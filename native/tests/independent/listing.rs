@@ -1,30 +1,22 @@
+use native::agreement::agrees;
 use native::draw::small;
-use native::listing::{front, front_of_all_departures};
-use native::planner::{most_rounds, plan};
-use native::refusal::NO_SCHEDULE;
+use native::listing::{seen, seen_with_all_departures};
+use native::print::INDEPENDENT;
 use native::rng::Rng;
-use native::schedule::pair_of;
 use native::sheet::{Form, Paths};
+use native::wishes::wishes;
 
-/// Compares so many sheets of up to so many orders. Each plan lists the front, is a schedule with the last pair, and keeps
-/// to the bound on rounds. Gives how often the front was empty, had one pair, and had more.
+/// Compares so many sheets of up to so many orders, in listing and in choosing. Gives how often the front was empty, had one pair, and had
+/// more.
 fn compare(form: Form, seed: u64, sizes: [(u32, u32); 3]) -> [usize; 3] {
     let mut rng = Rng::new(seed);
     let mut met = [0; 3];
     for (sheets, most_orders) in sizes {
         for _ in 0..sheets {
             let sheet = small(&mut rng, form, most_orders);
-            let front = front(&sheet);
-            met[front.len().min(2)] += 1;
-            match plan(&sheet) {
-                Ok(plan) => {
-                    assert_eq!(plan.pairs, front, "{sheet:?}");
-                    assert!(!front.is_empty(), "{sheet:?}");
-                    assert_eq!(pair_of(&sheet, &plan), front.last().copied(), "{sheet:?}");
-                    assert!(plan.rounds <= most_rounds(&sheet.capacity), "{sheet:?}");
-                }
-                Err(refusal) => assert!(refusal.number == NO_SCHEDULE && front.is_empty(), "{refusal:?} {sheet:?}"),
-            }
+            let seen = seen(&sheet);
+            met[seen.front().len().min(2)] += 1;
+            assert!(agrees(&INDEPENDENT, &sheet, &seen), "{sheet:?}");
         }
     }
     met
@@ -52,7 +44,10 @@ fn earliest_departures_suffice() {
         let sheet = small(&mut rng, Form::Windows, 4);
         let Paths::Windows(windows) = &sheet.paths else { panic!("a sheet of the window form") };
         if windows.to.last().is_some_and(|&to| to <= LAST_DEPARTURE) {
-            assert_eq!(front(&sheet), front_of_all_departures(&sheet), "{sheet:?}");
+            let (earliest, all) = (seen(&sheet), seen_with_all_departures(&sheet));
+            let front = earliest.front();
+            assert_eq!(front, all.front(), "{sheet:?}");
+            assert!(wishes(&front).iter().all(|&wish| earliest.best_by(wish) == all.best_by(wish)), "{sheet:?}");
             tried += 1;
         }
     }

@@ -1,26 +1,27 @@
 use native::draw::{big, small};
 use native::ladder::{ladder_timetable, ladder_windows, Ladder};
 use native::limits::{MOST_CAPACITY, MOST_ORDERS, MOST_TRAINS};
-use native::planner::plan;
-use native::refusal::{Refusal, NO_SCHEDULE};
+use native::plan::{Listing, Pair};
+use native::planner::{choose, list};
+use native::refusal::{Refusal, NO_SCHEDULE, WISH_TOO_EARLY};
 use native::rng::Rng;
 use native::sheet::{Sheet, FORMS};
 use native::trace::{trace, Outcome};
+use native::wishes::wishes;
 
 /// The planner follows the rounds word for word.
 fn check_rounds(sheet: &Sheet) {
     let trace = trace(sheet);
-    match plan(sheet) {
-        Ok(plan) => {
-            assert_eq!(plan.rounds, trace.outcomes.len(), "{sheet:?}");
-            assert_eq!(plan.pairs, trace.pairs, "{sheet:?}");
-            assert_eq!(plan.train_of_order, trace.train_of_order, "{sheet:?}");
-            assert_eq!(plan.times, trace.times, "{sheet:?}");
-        }
-        Err(refusal) => {
-            assert_eq!(refusal, Refusal::of_all(NO_SCHEDULE), "{sheet:?}");
-            assert_eq!(trace.outcomes, [Outcome::Stopped], "{sheet:?}");
-        }
+    let pairs: Vec<Pair> = trace.entries.iter().map(|entry| entry.pair).collect();
+    let listed = match trace.outcomes[..] {
+        [Outcome::Stopped] => Err(Refusal::of_all(NO_SCHEDULE)),
+        _ => Ok(Listing { pairs: pairs.clone(), rounds: trace.outcomes.len() }),
+    };
+    assert_eq!(list(sheet), listed, "{sheet:?}");
+    for wish in wishes(&pairs) {
+        let in_time = trace.entries.iter().take_while(|entry| entry.pair.arrival <= wish).last();
+        let number = if pairs.is_empty() { NO_SCHEDULE } else { WISH_TOO_EARLY };
+        assert_eq!(choose(sheet, wish), in_time.cloned().ok_or(Refusal::of_all(number)), "{wish} {sheet:?}");
     }
 }
 

@@ -1,19 +1,12 @@
-use native::cases::{CASE_A, CASE_H};
+use native::cases::{sheet_of, CASE_A, CASE_H};
 use native::plan::{Pair, Plan};
-use native::planner::plan;
-use native::reader::read;
+use native::planner::choose;
 use native::schedule::pair_of;
-use native::sheet::{Form, Sheet};
 
-fn sheet_and_plan(text: &str) -> (Sheet, Plan) {
-    let sheet = read(text.as_bytes(), Form::of(text.as_bytes())).unwrap().sheet;
-    let plan = plan(&sheet).unwrap();
-    (sheet, plan)
-}
-
-/// The plan after a change, and the pair that it has if it is a schedule.
+/// The pair that the plan of the last listed pair has after a change, if it is a schedule.
 fn changed(text: &str, change: impl Fn(&mut Plan)) -> Option<Pair> {
-    let (sheet, mut plan) = sheet_and_plan(text);
+    let sheet = sheet_of(text);
+    let mut plan = choose(&sheet, u32::MAX).unwrap().plan;
     change(&mut plan);
     pair_of(&sheet, &plan)
 }

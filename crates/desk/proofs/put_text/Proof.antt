@@ -1,6 +1,6 @@
 -- `put_text` meets its contract: the reading call's refusal is printed, or its sheet is planned and printed. Assumes nothing.
 use borrow.Author.Needs.{needs}
-use Rattle.desk.specs.PrintingLaws.{reading-refused, sheet-planned}
+use Rattle.desk.specs.PrintingLaws.{reading-refused, sheet-put}
 use Rattle.desk.proofs.put_text.Statement.{statement}
 use Rattle.desk.proofs.put_text.Tie as tie
 
@@ -19,7 +19,7 @@ returns-2 c =
     let told = printed .before .before in
     let read = told .before .before .before .before in
     let form = read .before in
-    sheet-planned (form .before .before .before .args .text .now) (form .form-of .result) (form .form-of .ensures) (read .read .result)
+    sheet-put (form .before .before .before .args .text .now) (form .form-of .result) (form .form-of .ensures) (read .read .result)
     (read .read .ensures .equal) (told .enum-told .given .1) (printed .put-sheet .ensures)
 
 pub put-text-spec : {M : Type 1} → statement M

@@ -2,19 +2,20 @@
 
 use crate::parts::{order_lines, train_lines, window_lines};
 use crate::store::Store;
-use native::cases::{with, CASE_A, CASE_E, CASE_H};
+use native::cases::cases;
 
 pub fn store_cases(store: &mut Store) {
     store.group(1);
-    store.planned("case-a", CASE_A);
-    store.planned("case-b-gap-10", &with(CASE_A, "G,60", "G,10"));
-    store.planned("case-c-gap-61", &with(CASE_A, "G,60", "G,61"));
-    store.refused("case-d-only-window-0-80", with(CASE_A, "W,0,100\nW,150,200", "W,0,80"), "E,8,0");
-    store.planned("case-e", CASE_E);
-    store.refused("case-f-release-1", with(CASE_E, "A,0,0", "A,1,0"), "E,8,0");
-    store.planned("case-g-due-2", &with(CASE_E, "A,0,0", "A,0,2"));
-    store.planned("case-h-timetable", CASE_H);
-    store.planned("case-i-first-departure-39", &with(CASE_H, "X,1,50", "X,1,39"));
+    let [a, b, c, d, e, f, g, h, i] = cases();
+    store.planned("case-a", &a);
+    store.planned("case-b-gap-10", &b);
+    store.planned("case-c-gap-61", &c);
+    store.refused("case-d-only-window-0-80", d, "E,8,0");
+    store.planned("case-e", &e);
+    store.refused("case-f-release-1", f, "E,8,0");
+    store.planned("case-g-due-2", &g);
+    store.planned("case-h-timetable", &h);
+    store.planned("case-i-first-departure-39", &i);
 }
 
 pub fn store_all(store: &mut Store) {

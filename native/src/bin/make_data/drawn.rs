@@ -5,7 +5,7 @@ use native::climb::climb;
 use native::draw::big;
 use native::ladder::{ladder_timetable, ladder_windows, Ladder};
 use native::limits::{MOST_ORDERS, MOST_TRAINS};
-use native::planner::plan;
+use native::planner::list;
 use native::rng::Rng;
 use native::sheet::{Form, Sheet, FORMS};
 
@@ -52,15 +52,15 @@ fn moving_ladders(store: &mut Store, rng: &mut Rng) {
     {
         let ladder = Ladder { release, stir, shuffled };
         let tries = (0..MOVING_TRIES).map(|_| ladder_windows(rng, N, Q, ladder, 0));
-        let sheet = tries.max_by_key(|sheet| plan(sheet).map_or(0, |plan| plan.rounds * plan.pairs.len()));
+        let sheet = tries.max_by_key(|sheet| list(sheet).map_or(0, |listing| listing.rounds * listing.pairs.len()));
         store.planned_sheet(&format!("ladder-{name}-window"), &sheet.expect("a try"));
     }
 }
 
-/// The first drawn sheet whose plan has the wanted counts of rounds and pairs.
+/// The first drawn sheet whose search has the wanted counts of rounds and pairs.
 fn find_planned(rng: &mut Rng, form: Form, (n, q): (u32, usize), wanted: fn(usize, usize) -> bool) -> Sheet {
     let mut sheets = std::iter::repeat_with(|| big(rng, form, n, q));
-    let found = sheets.find(|sheet| plan(sheet).is_ok_and(|plan| wanted(plan.rounds, plan.pairs.len())));
+    let found = sheets.find(|sheet| list(sheet).is_ok_and(|listing| wanted(listing.rounds, listing.pairs.len())));
     found.expect("there are sheets without end")
 }
 

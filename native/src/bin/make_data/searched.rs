@@ -33,10 +33,12 @@ const WINDOWS: [Wanted; 12] = [
     ("last-round-records-nothing", |t| ends(t, &[Listed, Nothing])),
     ("stops-for-want-of-a-window-in-round-5", |t| t.outcomes.len() == 5 && ends(t, &[Stopped])),
     ("stops-for-want-of-a-window-after-nothing", |t| ends(t, &[Nothing, Stopped])),
-    ("five-pairs", |t| t.pairs.len() == 5),
-    ("two-pairs-all-early", |t| t.pairs.len() >= 2 && t.pairs[0].lateness < 0),
-    ("pairs-from-late-to-early", |t| t.pairs.len() >= 3 && t.pairs[0].lateness > 0 && t.pairs[2].lateness < 0),
-    ("ten-rounds-one-pair", |t| t.outcomes.len() >= 10 && t.pairs.len() == 1),
+    ("five-pairs", |t| t.entries.len() == 5),
+    ("two-pairs-all-early", |t| t.entries.len() >= 2 && t.entries[0].pair.lateness < 0),
+    ("pairs-from-late-to-early", |t| {
+        t.entries.len() >= 3 && t.entries[0].pair.lateness > 0 && t.entries[2].pair.lateness < 0
+    }),
+    ("ten-rounds-one-pair", |t| t.outcomes.len() >= 10 && t.entries.len() == 1),
 ];
 
 // Each round of a timetable sheet records, since its arrivals are fixed.
@@ -44,7 +46,7 @@ const TIMETABLE: [Wanted; 4] = [
     ("replaced-five-times", |t| has(t, &[Replaced; 5])),
     ("ten-rounds", |t| t.outcomes.len() >= 10),
     ("stops-for-a-release-in-round-5", |t| t.outcomes.len() == 5 && ends(t, &[Stopped])),
-    ("ends-early-after-five-rounds", |t| t.outcomes.len() >= 5 && t.pairs[0].lateness < 0),
+    ("ends-early-after-five-rounds", |t| t.outcomes.len() >= 5 && t.entries[0].pair.lateness < 0),
 ];
 
 pub fn store_all(store: &mut Store) {

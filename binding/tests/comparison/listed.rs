@@ -1,0 +1,33 @@
+//! The product's listing of one sheet.
+
+use crate::cause::{cause_of, if_short};
+use binding::areas::PairsArea;
+use binding::calls;
+use binding::exported::ExportedSheet;
+use native::plan::{Listing, Pair};
+use native::refusal::Refusal;
+use native::rng::Rng;
+use native::sheet::Sheet;
+
+/// The product lists as expected with an area that is long enough or has room to spare, and refuses one that is too short.
+pub fn check_listing(sheet: &Sheet, expected: &Result<Listing, Refusal>, rng: &mut Rng) {
+    let (n, q) = sheet.size();
+    let least = PairsArea::least(n, q);
+    check_in(sheet, least, expected);
+    check_in(sheet, least + rng.index(4), expected);
+    let short = Err(if_short(expected));
+    check_in(sheet, least.saturating_sub(rng.index(3) + 1), &short);
+    check_in(sheet, 0, &short);
+}
+
+/// With an area of this length: the reply, the first elements, and the rest as found.
+fn check_in(sheet: &Sheet, length: usize, expected: &Result<Listing, Refusal>) {
+    let (pairs, rounds): (&[Pair], usize) = expected.as_ref().map_or((&[], 0), |list| (&list.pairs, list.rounds));
+    let numbers: Vec<i64> = pairs.iter().flat_map(|pair| [pair.arrival.into(), pair.lateness]).collect();
+    let mut area = PairsArea::of_length(length);
+    let reply = ExportedSheet::from(sheet).list_in(&mut area);
+    let expected = calls::Listing { cause: cause_of(expected), pairs: pairs.len(), rounds };
+    assert_eq!(reply, expected, "{length} {sheet:?}");
+    assert_eq!(area.first(numbers.len()), numbers, "{length} {sheet:?}");
+    assert!(area.guarded_but(numbers.len()), "{length} {sheet:?}");
+}

@@ -1,0 +1,107 @@
+-- A LISTING CALL THAT IS EQUAL TO THE ROUNDS KEEPS ITS WHOLE CONTRACT. Assumes nothing.
+use mathlib.Core.Path.{_≡_, refl, sym, ap, _∙_, subst}
+use mathlib.Core.Logic.{_↔_}
+use mathlib.Core.List.{List}
+use Prim.Native.Nat.{ℕ, _≤_}
+use native.Mathlib.Omega.{arith}
+use lib.IntN.{ℤ}
+use lib.ListN.{length}
+use Rattle.numbers.specs.DecidesLaws.{test-true, test-means}
+use Rattle.numbers.specs.Over.{over}
+use Rattle.model.specs.Sheet.{Sheet}
+use Rattle.model.specs.Schedule.{Schedule}
+use Rattle.model.specs.Refusal.{of-listing, numberOf}
+use Rattle.model.specs.Admission.{Admitted}
+use Rattle.model.specs.declared.Admission.{Admission}
+use Rattle.model.specs.declared.Admission.the-variants as outcome
+use Rattle.model.specs.declared.Refusal.{Refusal}
+use Rattle.model.specs.declared.ListReply.{ListReply}
+use Rattle.model.specs.declared.ListReply.the-variants.{Listed, Refused}
+use Rattle.rounds.specs.Answers.{Answer, refused, given, Listing, list}
+use Rattle.rounds.specs.Areas.{ListRoom, list-room, tested, list-to, list-reply, pair-numbers, list-left}
+use Rattle.rounds.specs.AreaLaws.{decides-list-room, list-returns, list-as-found}
+use Rattle.rounds.specs.AnswerLaws.{Answered, no-schedule, listing, answered}
+use Rattle.rounds.specs.Told.{ListTold}
+use Rattle.front.specs.Front.{Front, listed-is-front}
+use Rattle.planner.specs.InAreas.{pairs-in}
+use Rattle.planner.specs.InAreasLaws.{pairs-read}
+use Rattle.planner.specs.CallLaws.{passed, passes, answer-refused, answer-granted, accepted}
+use Rattle.planner.specs.Listing.{ListingCall}
+
+-- "then 8 or 9": what the rounds answer to a sheet that passes the tests
+pub list-of-rounds : (s : Sheet) (lent : List ℤ) → Admitted s → ListRoom s lent → list-to s lent ≡ list s
+unfolding list-to
+list-of-rounds s lent a room =
+    answer-granted s (list-room s (length lent)) (list s) (passes s _ a (test-true (decides-list-room s lent) room))
+
+-- ---- what is told before the rounds, and after them
+
+module _ (s : Sheet) (lent : List ℤ) where
+  abbrev tests : Admission
+  tests = tested s (list-room s (length lent))
+
+  -- a refusal, and the area as found
+  pub told-refused : (t : Admission) (f : Refusal) → t ≡ tests → t ≡ outcome.Refused f → ListTold (list-to s lent) (Refused f) lent lent
+  unfolding list-to list-reply list-left
+  told-refused t f is e =
+      rw (answer-refused s (list-room s (length lent)) (list s) f (sym is ∙ e)) (record { replied = refl; area-left = refl })
+
+  -- what the rounds tell is what the call tells
+  pub told-rounds : (t : Admission) → t ≡ tests → t ≡ outcome.Granted → (r : ListReply) (left : List ℤ) → ListTold (list s) r left lent
+      → ListTold (list-to s lent) r left lent
+  unfolding list-to
+  told-rounds t is e r left told = rw (answer-granted s (list-room s (length lent)) (list s) (sym is ∙ e)) told
+
+  -- a sheet that passes is admitted, and the area has room
+  pub admitted : (t : Admission) → t ≡ tests → t ≡ outcome.Granted → Admitted s
+  admitted t is e = passed s (list-room s (length lent)) (sym is ∙ e) .admitted
+
+  pub has-room : (t : Admission) → t ≡ tests → t ≡ outcome.Granted → ListRoom s lent
+  has-room t is e = test-means (decides-list-room s lent) (passed s (list-room s (length lent)) (sym is ∙ e) .has-room)
+
+-- ---- the contract
+
+-- of an admitted sheet the rounds answer with number 8 exactly when there is no schedule
+eight-listed : (s : Sheet) → Admitted s → numberOf (of-listing (list-reply (list s))) ≡ 8 ↔ ((train departure : List ℕ) → ¬ Schedule s train departure)
+unfolding list-reply
+eight-listed s a = go (list s) (answered s a)
+  where
+    go : (x : Answer Listing) → Answered s x → numberOf (of-listing (list-reply x)) ≡ 8 ↔ ((train departure : List ℕ) → ¬ Schedule s train departure)
+    go x (no-schedule none) = (λ e. none, λ f. refl)
+    go x (listing l) =
+        let (train, departure, h, own) = l .belong 0 (l .not-empty) in (λ e. absurd (omega arith), λ none. absurd (none train departure h))
+
+module _ (s : Sheet) (r : ListReply) (left found : List ℤ) (told : ListTold (list-to s found) r left found) where
+  -- an accepted call's listing
+  accepts : (pairs rounds : ℕ) → r ≡ Listed pairs rounds → (l : Listing) × (list-to s found ≡ given l) × (pairs ≡ length (l .pairs))
+  unfolding list-reply
+  accepts pairs rounds e = go (list-to s found) refl (told .replied)
+    where
+      go : (x : Answer Listing) → list-to s found ≡ x → r ≡ list-reply x → (l : Listing) × (list-to s found ≡ given l) × (pairs ≡ length (l .pairs))
+      go (refused f) u v = absurd (let z : _≡_ {A = ℕ} 0 1 = cc in omega arith)
+      go (given l) u v = (l, u, cc)
+
+  front : (pairs rounds : ℕ) → r ≡ Listed pairs rounds → Front s (pairs-in pairs left)
+  unfolding list-to list-left
+  front pairs rounds e = go (accepts pairs rounds e)
+    where
+      go : ((l : Listing) × (list-to s found ≡ given l) × (pairs ≡ length (l .pairs))) → Front s (pairs-in pairs left)
+      go (l, u, many) =
+          let (granted, is) = accepted s (list-room s (length found)) (list s) u in
+          let a = passed s (list-room s (length found)) granted .admitted in
+          let written = over (pair-numbers (l .pairs)) found in
+          let here : left ≡ written = told .area-left ∙ ap (λ (x : Answer Listing). list-left x found) u in
+          let read : pairs-in pairs left ≡ l .pairs =
+          ap (pairs-in pairs) here ∙ ap (λ (k : ℕ). pairs-in k written) many ∙ pairs-read (l .pairs) found in
+          subst (Front s) (sym read) (listed-is-front s a is)
+
+  -- THE WHOLE CONTRACT FOLLOWS FROM THE EQUALITY
+  pub listing-call : ListingCall s r left found
+  listing-call =
+      record {
+        equal = told;
+        front = front;
+        eight = λ a room. rw (told .replied, list-of-rounds s found a room) (eight-listed s a);
+        returns-zero = rw (told .replied) (list-returns s found);
+        as-found = λ l. told .area-left ∙ list-as-found (list-to s found) found (subst (λ (x : ListReply). 1 ≤ numberOf (of-listing x)) (told .replied) l);
+      }

@@ -1,0 +1,118 @@
+-- Arrivals never fall from round to round. Assumes nothing.
+use mathlib.Core.Path.{_≡_, refl, subst}
+use mathlib.Core.Bool.{Bool, true, false, cond}
+use mathlib.Core.List.{List}
+use Prim.Native.Nat.{ℕ, zero, suc, _+_, _-_, _≤_}
+use native.Mathlib.Omega.{arith}
+use lib.IntN.{ℤ}
+use lib.Signed.{ltZ, _<ℤ_}
+use Rattle.numbers.specs.Counting.{nth}
+use Rattle.numbers.specs.DecidesLaws.{Decides, decides-ltℤ}
+use Rattle.numbers.specs.OneMoreLaws.{All, all-new}
+use Rattle.model.specs.Sheet.{Sheet}
+use Rattle.model.specs.Lateness.{worst}
+use Rattle.model.specs.Admission.{Admitted}
+use Rattle.rounds.specs.Timing.{Timed, stopped, timed}
+use Rattle.rounds.specs.Recording.{Plan, Entry, record-entry, no-entry, last-entry, recorded-arrival}
+use Rattle.rounds.specs.RecordingLaws.{record-last, arrival-behind, arrival-recorded}
+use Rattle.rounds.specs.EntryPlan.{EntryPlan}
+use Rattle.rounds.specs.Lowering.{lower, crowded}
+use Rattle.rounds.specs.Rounds.{Search, going, ended, recorded-in, start, loading, times, settle, grade, depart, round, rounds}
+use Rattle.rounds.specs.RoundsLaws.{one-round-more}
+use Rattle.rounds.specs.FrontSoFarLaws.{Recorded, nothing-yet, so-far, belongs-to, not-before}
+use Rattle.rounds.specs.InvariantLaws.{entry-plans, reached}
+
+-- ---- what a round records: nothing, or one entry that is below the limit y
+
+data Records (y : ℤ) (recorded : List Entry) : List Entry → Type 0 where
+  nothing-more : Records y recorded recorded
+  one-below : (e : Entry) → e .pair .worst <ℤ y → Records y recorded (record-entry recorded e)
+
+settled : (s : Sheet) (c : ℕ) (latest : List ℕ) (y : ℤ) (recorded : List Entry) (F : ℕ → ℕ) → recorded-in (settle s c latest y recorded F) ≡ recorded
+unfolding settle
+settled s c latest y recorded F = go (crowded (s .orders) (s .capacity) lowered (s .trains))
+  where
+    lowered : List ℕ
+    lowered = lower (s .orders) (s .weight) (s .due) F y latest
+
+    go : (b : Bool) → recorded-in (cond b (ended c recorded) (going c lowered y recorded)) ≡ recorded
+    go true = refl
+    go false = refl
+
+graded : (s : Sheet) (c : ℕ) (latest : List ℕ) (y : ℤ) (recorded : List Entry) (plan : Plan)
+    → Records y recorded (recorded-in (grade s c latest y recorded plan))
+unfolding grade
+graded s c latest y recorded plan = go (ltZ z y) (decides-ltℤ z y)
+  where
+    F : ℕ → ℕ
+    F = nth (plan .arrival)
+
+    z : ℤ
+    z = worst s (plan .train) F
+
+    entry : Entry
+    entry = record { pair = record { last = F (s .trains); worst = z }; plan = plan }
+
+    go : (b : Bool) → Decides (z <ℤ y) b
+        → Records y recorded (recorded-in (cond b (settle s c latest z (record-entry recorded entry) F) (settle s c latest y recorded F)))
+    go true d = rw (settled s c latest z (record-entry recorded entry) F) (one-below entry (d .sound tt))
+    go false d = rw (settled s c latest y recorded F) nothing-more
+
+round-records : (s : Sheet) (c : ℕ) (latest : List ℕ) (y : ℤ) (recorded : List Entry)
+    → Records y recorded (recorded-in (round s (going c latest y recorded)))
+unfolding round depart
+round-records s c latest y recorded = go (times s (loading s latest))
+  where
+    go : (t : Timed) → Records y recorded (recorded-in (depart s (suc c) latest y recorded (loading s latest) t))
+    go stopped = nothing-more
+    go (timed S F) = graded s (suc c) latest y recorded (record { train = loading s latest; departure = S; arrival = F })
+
+-- ---- of an admitted sheet that entry is not earlier than the one recorded last
+
+pub data Next (recorded : List Entry) : List Entry → Type 0 where
+  no-more : Next recorded recorded
+  one-more : (e : Entry) → recorded-arrival recorded ≤ e .pair .last → Next recorded (record-entry recorded e)
+
+module _ (s : Sheet) (a : Admitted s) where
+  abbrev recorded-after : ℕ → List Entry
+  recorded-after k = recorded-in (rounds s k (start s))
+
+  not-earlier : (y : ℤ) (recorded : List Entry) → Recorded s y recorded → (e : Entry) → EntryPlan s e → e .pair .worst <ℤ y
+      → recorded-arrival recorded ≤ e .pair .last
+  unfolding last-entry
+  not-earlier y recorded (nothing-yet limit) e h better = omega arith
+  not-earlier y recorded (so-far before e₀ limit H) e h better =
+      rw (arrival-behind before e₀)
+      (not-before s (e₀ .pair) (H .ahead) (e .pair) (belongs-to s e h)
+      (subst (λ (v : ℤ). e .pair .worst <ℤ v) limit better))
+
+  next-is : (y : ℤ) (recorded after : List Entry) → Recorded s y recorded → All no-entry (EntryPlan s) after → Records y recorded after → Next recorded after
+  next-is y recorded after r plans nothing-more = no-more
+  next-is y recorded after r plans (one-below e better) =
+      let (before, u) = record-last recorded e in
+      one-more e (not-earlier y recorded r e (all-new no-entry before e (EntryPlan s) (rw u at plans)) better)
+
+  pub next-recorded : (k : ℕ) → Next (recorded-after k) (recorded-after (k + 1))
+  unfolding round
+  next-recorded k = rw (one-round-more s k (start s)) (go (rounds s k (start s)) refl (rw (one-round-more s k (start s)) at (entry-plans s a (k + 1))))
+    where
+      go : (x : Search) → rounds s k (start s) ≡ x → All no-entry (EntryPlan s) (recorded-in (round s x)) → Next (recorded-in x) (recorded-in (round s x))
+      go (ended c recorded) u plans = no-more
+      go (going c latest y recorded) u plans =
+          next-is y recorded _ (reached s a k c latest y recorded u .on-record .front) plans (round-records s c latest y recorded)
+
+  -- ARRIVALS NEVER FALL
+  pub arrivals-never-fall : (k : ℕ) → recorded-arrival (recorded-after k) ≤ recorded-arrival (recorded-after (k + 1))
+  arrivals-never-fall k = go _ _ (next-recorded k)
+    where
+      go : (recorded after : List Entry) → Next recorded after → recorded-arrival recorded ≤ recorded-arrival after
+      go recorded after no-more = omega arith
+      go recorded after (one-more e l) = rw (arrival-recorded recorded e) l
+
+  -- nor over several rounds
+  pub arrivals-in-order : (k m : ℕ) → k ≤ m → recorded-arrival (recorded-after k) ≤ recorded-arrival (recorded-after m)
+  arrivals-in-order k m l = let e : k + (m - k) ≡ m = omega arith in rw e at (go (m - k))
+    where
+      go : (j : ℕ) → recorded-arrival (recorded-after k) ≤ recorded-arrival (recorded-after (k + j))
+      go zero = let e : k + 0 ≡ k = omega arith in rw e (omega arith)
+      go (suc j) = let e : k + suc j ≡ k + j + 1 = omega arith in rw e (omega (arith, go j, arrivals-never-fall (k + j)))

@@ -1,0 +1,165 @@
+//! The rounds of an admitted sheet, for benchmarks and comparison.
+//! While they run, two bytes are kept for each order, its train and its latest train; and, for choosing, the plan of every listed pair.
+
+use crate::limits::*;
+use crate::plan::{Entry, Pair, Plan, Times};
+use crate::refusal::*;
+use crate::sheet::{Orders, Paths, Sheet, Timetable, Windows};
+
+/// The entries of the listed pairs, by rising arrival, and how many rounds were made.
+pub struct Recorded {
+    pub entries: Vec<Entry>,
+    pub rounds: usize,
+}
+
+impl Recorded {
+    /// The last listed pair that is not later than the wished arrival, with its plan.
+    pub fn chosen(&self, wish: u32) -> Result<&Entry, Refusal> {
+        let in_time = |entry: &&Entry| entry.pair.arrival <= wish;
+        self.entries.iter().rev().find(in_time).ok_or(Refusal::of_all(WISH_TOO_EARLY))
+    }
+}
+
+/// Every round, with the plan of each listed pair kept. The round limit is never met.
+pub fn search(sheet: &Sheet) -> Result<Recorded, Refusal> {
+    let Sheet { capacity, orders, paths } = sheet;
+    let (n, q) = sheet.size();
+    let (mut train, mut latest) = ([0; MOST_ORDERS], [q as u8; MOST_ORDERS]);
+    let (train, latest) = (&mut train[..n], &mut latest[..n]);
+    let (mut greatest, mut times) = ([0; MOST_TRAINS], [Times::default(); MOST_TRAINS]);
+    let (greatest, times) = (&mut greatest[..q], &mut times[..q]);
+    let mut limit = i64::MAX;
+    let mut entries = Vec::new();
+    for rounds in 1..=n * q {
+        load(&orders.release, capacity, latest, train, greatest);
+        if !run(paths, greatest, times) {
+            return if rounds == 1 { Err(Refusal::of_all(NO_SCHEDULE)) } else { Ok(Recorded { entries, rounds }) };
+        }
+        let worst = worst_lateness(orders, train, times);
+        if worst < limit {
+            limit = worst;
+            record(&mut entries, worst, train, times);
+        }
+        lower(orders, times, limit, latest);
+        if crowded(capacity, latest) {
+            return Ok(Recorded { entries, rounds });
+        }
+    }
+    Err(Refusal::of_all(ROUND_LIMIT))
+}
+
+/// Marks an order that waits: its byte holds this plus its latest train.
+const WAITS: u8 = 128;
+
+/// A key joins an order's release and its number, which takes these low bits.
+const NUMBER_BITS: u32 = 8;
+const NUMBER_MASK: u32 = (1 << NUMBER_BITS) - 1;
+
+/// Step 1 by direct picks. Also gives the greatest release on each train.
+fn load(release: &[u32], capacity: &[u32], latest: &[u8], train: &mut [u8], greatest: &mut [u32]) {
+    for (mark, last) in train.iter_mut().zip(latest) {
+        *mark = WAITS + last;
+    }
+    for i in (0..capacity.len()).rev() {
+        let this = i as u8 + 1;
+        for pick in 0..capacity[i] {
+            let key = greatest_waiting(release, train, WAITS + this);
+            debug_assert!(key > 0, "step 5 leaves enough orders for each train");
+            train[(key & NUMBER_MASK) as usize - 1] = this;
+            if pick == 0 {
+                greatest[i] = key >> NUMBER_BITS;
+            }
+        }
+    }
+}
+
+/// The key of the order to take next; 0 if none waits for this train. Keys fit in an i32, for which x86-64 compares many at once.
+fn greatest_waiting(release: &[u32], mark: &[u8], least: u8) -> u32 {
+    let mut best = 0i32;
+    let mut number = 0;
+    for (r, m) in release.iter().zip(mark) {
+        number += 1;
+        let key = (r << NUMBER_BITS) as i32 | number;
+        let key = if *m >= least { key } else { 0 };
+        best = if key > best { key } else { best };
+    }
+    best as u32
+}
+
+/// Step 2: from the greatest release on each train to its times; false to stop.
+fn run(paths: &Paths, greatest: &[u32], times: &mut [Times]) -> bool {
+    match paths {
+        Paths::Windows(windows) => run_windows(windows, greatest, times),
+        Paths::Timetable(timetable) => run_timetable(timetable, greatest, times),
+    }
+}
+
+fn run_windows(windows: &Windows, greatest: &[u32], times: &mut [Times]) -> bool {
+    let mut window = 0;
+    let (mut earliest_departure, mut earliest_arrival) = (0, 0);
+    for (i, slot) in times.iter_mut().enumerate() {
+        let wish = greatest[i].max(earliest_departure);
+        while window < windows.to.len() && windows.to[window] < wish {
+            window += 1;
+        }
+        if window == windows.to.len() {
+            return false;
+        }
+        let departure = wish.max(windows.from[window]);
+        let arrival = (departure + windows.running[i]).max(earliest_arrival);
+        *slot = Times { departure, arrival };
+        earliest_departure = departure + windows.gap;
+        earliest_arrival = arrival + windows.gap;
+    }
+    true
+}
+
+fn run_timetable(timetable: &Timetable, greatest: &[u32], times: &mut [Times]) -> bool {
+    for (i, slot) in times.iter_mut().enumerate() {
+        if greatest[i] > timetable.departure[i] {
+            return false;
+        }
+        *slot = Times { departure: timetable.departure[i], arrival: timetable.arrival[i] };
+    }
+    true
+}
+
+/// Step 3's z.
+fn worst_lateness(orders: &Orders, train: &[u8], times: &[Times]) -> i64 {
+    let of_order = |(j, &i): (usize, &u8)| orders.lateness(j, times[usize::from(i) - 1].arrival);
+    train.iter().enumerate().map(of_order).max().unwrap_or(i64::MIN)
+}
+
+/// Step 3, where the worst lateness is below the limit: an entry with the same last arrival as the one before replaces it.
+fn record(entries: &mut Vec<Entry>, worst: i64, train: &[u8], times: &[Times]) {
+    let pair = Pair { arrival: times[times.len() - 1].arrival, lateness: worst };
+    if entries.last().is_some_and(|last| last.pair.arrival == pair.arrival) {
+        entries.pop();
+    }
+    entries.push(Entry { pair, plan: Plan { train_of_order: train.to_vec(), times: times.to_vec() } });
+}
+
+/// Step 4.
+fn lower(orders: &Orders, times: &[Times], limit: i64, latest: &mut [u8]) {
+    for (j, last) in latest.iter_mut().enumerate() {
+        while *last > 0 && orders.lateness(j, times[usize::from(*last) - 1].arrival) >= limit {
+            *last -= 1;
+        }
+    }
+}
+
+/// Step 5: more orders with a latest train <= i than places up to train i.
+fn crowded(capacity: &[u32], latest: &[u8]) -> bool {
+    let mut count = [0u32; MOST_TRAINS + 1];
+    for &last in latest {
+        count[usize::from(last)] += 1;
+    }
+    let mut orders = count[0];
+    let mut places = 0;
+    orders > 0
+        || capacity.iter().zip(&count[1..]).any(|(k, c)| {
+            orders += c;
+            places += k;
+            orders > places
+        })
+}
