@@ -14,8 +14,9 @@ use Rattle.model.specs.declared.ListReply.the-variants as listing
 use Rattle.model.specs.declared.ChoiceReply.{ChoiceReply}
 use Rattle.model.specs.declared.ChoiceReply.the-variants as choosing
 use Rattle.rounds.specs.EntryPlan.{EntryPlan}
+use Rattle.rounds.specs.ChosenPair.{Best, TooEarly}
 use Rattle.rounds.specs.Areas.{ListRoom, list-to, list-reply, PlanAreas, PlanRoom, choose-to, choice-reply}
-use Rattle.front.specs.Front.{Front, ChosenListed, Best, TooEarly}
+use Rattle.front.specs.Front.{Front, ChosenListed}
 use Rattle.planner.specs.Listing.{ListingCall}
 use Rattle.planner.specs.Choosing.{ChoosingCall}
 use Rattle.planner.specs.InAreas.{pairs-in, plan-in}

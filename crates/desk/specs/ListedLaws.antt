@@ -34,7 +34,7 @@ pub record HasListed (s : Sheet) (count rounds : ℕ) (left found : List ℤ) : 
 module _ (s : Sheet) (count rounds : ℕ) (left found : List ℤ) where
   pub has-listed : ListingCall s (Listed count rounds) left found → HasListed s count rounds left found
   unfolding list-to list-reply list-left
-  has-listed call = go (list-to s found) refl (call .equal .replied) (call .equal .area-left)
+  has-listed call = go (list-to s found) refl (call .equal .replied) (call .equal .areas-left)
     where
       go : (x : Answer Listing) → list-to s found ≡ x → Listed count rounds ≡ list-reply x → left ≡ list-left x found
           → HasListed s count rounds left found
@@ -42,7 +42,7 @@ module _ (s : Sheet) (count rounds : ℕ) (left found : List ℤ) where
       go (given l) u e f =
           let room = list-room s (length found) in
           let (granted, is) = accepted s room (list s) u in
-          record { admitted = passed s room granted .admitted; listing = l; is = is; many = cc; counted = cc; area = f }
+          record { admitted = passed s room granted .0; listing = l; is = is; many = cc; counted = cc; area = f }
 
   -- the pairs that are read are those that are listed
   pub pairs-listed : (h : HasListed s count rounds left found) → pairs-in count left ≡ h .listing .pairs

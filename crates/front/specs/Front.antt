@@ -1,12 +1,13 @@
 -- THE ROUNDS LIST THE MODEL'S PARETO FRONT. Sheets, schedules and pairs are those of `model`, rounds and answers those of `rounds`; what holds of
--- an entry stands in rounds/specs/EntryPlan.antt, and `rounds-bound` in RoundsBound.antt. Each theorem cites a law of another file, and assumes nothing.
+-- an entry stands in rounds/specs/EntryPlan.antt, of a chosen pair in ChosenPair.antt, and `rounds-bound` in RoundsBound.antt. Each theorem cites a law
+-- of another file, and assumes nothing.
 use mathlib.Core.Path.{_≡_}
 use mathlib.Core.Logic.{_↔_}
 use mathlib.Core.List.{List}
 use Prim.Native.Nat.{ℕ, _+_, _*_, _≤_, _<_}
 use lib.IntN.{ℤ}
 use lib.ListN.{length}
-use lib.Signed.{_≤ℤ_, _<ℤ_}
+use lib.Signed.{_<ℤ_}
 use Rattle.numbers.specs.Counting.{at, nth}
 use Rattle.model.specs.Sheet.{Sheet}
 use Rattle.model.specs.Schedule.{Schedule}
@@ -17,6 +18,7 @@ use Rattle.model.specs.declared.Refusal.the-variants.{NoSchedule, RoundLimit, W
 use Rattle.rounds.specs.Timing.{stopped, timed}
 use Rattle.rounds.specs.Recording.{Entry, entry-at, last-entry, recorded-arrival}
 use Rattle.rounds.specs.EntryPlan.{EntryPlan}
+use Rattle.rounds.specs.ChosenPair.{LastInTime, Best, TooEarly}
 use Rattle.rounds.specs.Rounds.{going, ended, recorded-in, start, loading, times, first-timing, rounds, search}
 use Rattle.rounds.specs.RoundsBound.{rounds-bound}
 use Rattle.rounds.specs.Answers.{refused, given, Listing, list, last-arrival-in, choose}
@@ -75,32 +77,15 @@ pub chosen-plan : (s : Sheet) → Admitted s → (wish : ℕ) {e : Entry} → ch
 chosen-plan s a wish u = chosen-so s a wish u .plan
 
 -- "the last listed pair not later than it"
-pub record LastInTime (wish : ℕ) (pairs : List Pair) (p : Pair) : Type 0 where
-  pub place : ℕ
-  pub among : place < length pairs
-  pub is : pair-at pairs place ≡ p
-  pub in-time : p .last ≤ wish
-  pub later : (k : ℕ) → place < k → k < length pairs → wish < pair-at pairs k .last
-
 pub record ChosenListed (s : Sheet) (wish : ℕ) (p : Pair) : Type 0 where
   pub listing : Listing
   pub is-list : list s ≡ given listing
   pub last : LastInTime wish (listing .pairs) p
 
 pub chosen-listed : (s : Sheet) → Admitted s → (wish : ℕ) {e : Entry} → choose s wish ≡ given e → ChosenListed s wish (e .pair)
-chosen-listed s a wish u =
-    let h = chosen-so s a wish u in
-    record {
-      listing = h .listing;
-      is-list = h .is-list;
-      last = record { place = h .place; among = h .among; is = h .is; in-time = h .timely; later = h .later };
-    }
+chosen-listed s a wish u = let h = chosen-so s a wish u in record { listing = h .listing; is-list = h .is-list; last = h .last }
 
 -- "and none that arrives in time has a smaller worst lateness"
-abbrev pub Best : (s : Sheet) (wish : ℕ) (p : Pair) → Type 0
-Best s wish p =
-    (train departure : List ℕ) → Schedule s train departure → pairOf s train departure .last ≤ wish → p .worst ≤ℤ pairOf s train departure .worst
-
 pub chosen-best : (s : Sheet) → Admitted s → (wish : ℕ) {e : Entry} → choose s wish ≡ given e → Best s wish (e .pair)
 chosen-best s a wish {e} u = choice-best s wish e (chosen-so s a wish u)
 
@@ -128,14 +113,8 @@ pub before-the-first : (s : Sheet) → Admitted s → (wish : ℕ) {l : Listing}
 before-the-first s a wish u = eleven-before-first s a wish u
 
 -- that is when there is a schedule, and none arrives by the wish
-pub record TooEarly (s : Sheet) (wish : ℕ) : Type 0 where
-  pub some : (train : List ℕ) × (departure : List ℕ) × Schedule s train departure
-  pub later : (train departure : List ℕ) → Schedule s train departure → wish < pairOf s train departure .last
-
 pub wish-too-early : (s : Sheet) → Admitted s → (wish : ℕ) → choose s wish ≡ refused WishTooEarly ↔ TooEarly s wish
-wish-too-early s a wish =
-    let both = eleven-chosen s a wish in
-    (λ u. record { some = both .0 u .some; later = both .0 u .late }, λ h. both .1 (record { some = h .some; late = h .later }))
+wish-too-early s a wish = eleven-chosen s a wish
 
 -- ---- how many rounds
 

@@ -3,6 +3,7 @@ use mathlib.Core.Path.{_≡_, refl, sym, ap, _∙_}
 use mathlib.Core.Bool.{Bool, true, false, cond}
 use Prim.Native.Nat.{ℕ}
 use native.Mathlib.Omega.{arith}
+use Rattle.numbers.specs.DecidesLaws.{Decides, test-means}
 use Rattle.model.specs.Sheet.{Sheet}
 use Rattle.model.specs.Admission.{Admitted, admission}
 use Rattle.model.specs.AdmissionLaws.{admitted-means}
@@ -12,6 +13,7 @@ use Rattle.model.specs.declared.Refusal.{Refusal}
 use Rattle.model.specs.declared.Refusal.the-variants.{AreaTooShort}
 use Rattle.rounds.specs.Answers.{Answer, refused, given}
 use Rattle.rounds.specs.Areas.{after-admission, tested, after-tests}
+use Rattle.rounds.specs.Told.{Told}
 
 -- ---- the tests
 
@@ -26,11 +28,7 @@ unfolding tested after-admission
 tested-room s room a is e = ap (after-admission room) (sym e ∙ is)
 
 -- a sheet that passes is admitted, and the areas have room
-pub record Passed (s : Sheet) (room : Bool) : Type 0 where
-  pub admitted : Admitted s
-  pub has-room : room ≡ true
-
-pub passed : (s : Sheet) (room : Bool) → tested s room ≡ Granted → Passed s room
+pub passed : (s : Sheet) (room : Bool) → tested s room ≡ Granted → Admitted s × (room ≡ true)
 unfolding tested after-admission
 passed s room e = go (admission s) refl e
   where
@@ -38,9 +36,16 @@ passed s room e = go (admission s) refl e
     long true u = refl
     long false u = absurd (let z : _≡_ {A = ℕ} 0 1 = cc in omega arith)
 
-    go : (a : Admission) → admission s ≡ a → after-admission room a ≡ Granted → Passed s room
-    go Granted u v = record { admitted = admitted-means s .0 u; has-room = long room v }
+    go : (a : Admission) → admission s ≡ a → after-admission room a ≡ Granted → Admitted s × (room ≡ true)
+    go Granted u v = (admitted-means s .0 u, long room v)
     go (Refused r) u v = absurd (let z : _≡_ {A = ℕ} 0 1 = cc in omega arith)
+
+-- so where the tests say t
+pub admitted : (s : Sheet) (room : Bool) (t : Admission) → t ≡ tested s room → t ≡ Granted → Admitted s
+admitted s room t is e = passed s room (sym is ∙ e) .0
+
+pub has-room : {P : Type 0} (s : Sheet) {room : Bool} → Decides P room → (t : Admission) → t ≡ tested s room → t ≡ Granted → P
+has-room s {room} d t is e = test-means d (passed s room (sym is ∙ e) .1)
 
 pub passes : (s : Sheet) (room : Bool) → Admitted s → room ≡ true → tested s room ≡ Granted
 unfolding tested after-admission
@@ -67,3 +72,16 @@ module _ {A : Type 0} (s : Sheet) (room : Bool) (x : Answer A) where
       go : (t : Admission) → tested s room ≡ t → after-tests t x ≡ given y → (tested s room ≡ Granted) × (x ≡ given y)
       go Granted u v = (u, v)
       go (Refused r) u v = absurd (let z : _≡_ {A = ℕ} 0 1 = cc in omega arith)
+
+-- ---- what is told before the rounds, and after them
+
+module _ {A R L : Type 0} (replies : Answer A → R) (leaves : Answer A → L → L) (s : Sheet) (room : Bool) (x : Answer A) (found : L) (t : Admission)
+    (is : t ≡ tested s room) where
+  -- a refusal, and the areas as found
+  pub told-first : (f : Refusal) → t ≡ Refused f → leaves (refused f) found ≡ found
+      → Told replies leaves (after-tests (tested s room) x) (replies (refused f)) found found
+  told-first f e stays = rw (answer-refused s room x f (sym is ∙ e)) (record { replied = refl; areas-left = sym stays })
+
+  -- what the rounds tell is what the call tells
+  pub told-then : t ≡ Granted → (r : R) (left : L) → Told replies leaves x r left found → Told replies leaves (after-tests (tested s room) x) r left found
+  told-then e r left told = rw (answer-granted s room x (sym is ∙ e)) told

@@ -12,8 +12,9 @@ use Rattle.model.specs.declared.ChoiceReply.{ChoiceReply}
 use Rattle.model.specs.declared.ChoiceReply.the-variants.{Chosen}
 use Rattle.rounds.specs.Areas.{PlanAreas, PlanRoom, choose-to}
 use Rattle.rounds.specs.EntryPlan.{EntryPlan}
+use Rattle.rounds.specs.ChosenPair.{Best, TooEarly}
 use Rattle.rounds.specs.Told.{ChoiceTold}
-use Rattle.front.specs.Front.{ChosenListed, Best, TooEarly}
+use Rattle.front.specs.Front.{ChosenListed}
 use Rattle.planner.specs.InAreas.{plan-in}
 
 -- the pair p is given

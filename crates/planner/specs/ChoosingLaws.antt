@@ -7,7 +7,7 @@ use Prim.Native.Nat.{ℕ, _≤_}
 use native.Mathlib.Omega.{arith}
 use lib.IntN.{ℤ}
 use lib.ListN.{length}
-use Rattle.numbers.specs.DecidesLaws.{test-true, test-means}
+use Rattle.numbers.specs.DecidesLaws.{test-true}
 use Rattle.model.specs.Sheet.{Sheet}
 use Rattle.model.specs.Schedule.{Schedule}
 use Rattle.model.specs.Lateness.{Pair}
@@ -21,15 +21,16 @@ use Rattle.model.specs.declared.ChoiceReply.{ChoiceReply}
 use Rattle.model.specs.declared.ChoiceReply.the-variants.{Refused}
 use Rattle.rounds.specs.Recording.{Plan, Entry}
 use Rattle.rounds.specs.EntryPlan.{EntryPlan}
+use Rattle.rounds.specs.ChosenPair.{TooEarly}
 use Rattle.rounds.specs.Answers.{Answer, refused, given, choose}
 use Rattle.rounds.specs.Areas.{PlanAreas, PlanRoom, plan-room, tested, choose-to, choice-reply, plan-left}
 use Rattle.rounds.specs.AreaLaws.{decides-plan-room, choice-returns, plan-as-found}
 use Rattle.rounds.specs.ChoiceLaws.{Chose, no-schedule, too-early, choice, chose}
 use Rattle.rounds.specs.Told.{ChoiceTold}
-use Rattle.front.specs.Front.{TooEarly, chosen-plan, chosen-listed, chosen-best, no-schedule-chosen, wish-too-early}
+use Rattle.front.specs.Front.{chosen-plan, chosen-listed, chosen-best, no-schedule-chosen, wish-too-early}
 use Rattle.planner.specs.InAreas.{plan-in}
 use Rattle.planner.specs.InAreasLaws.{plan-read}
-use Rattle.planner.specs.CallLaws.{passed, passes, answer-refused, answer-granted, accepted}
+use Rattle.planner.specs.CallLaws.{passed, passes, answer-granted, accepted, told-first, told-then}
 use Rattle.planner.specs.Choosing.{Gives, ChoosingCall}
 
 -- what the rounds answer to a sheet that passes the tests
@@ -41,27 +42,18 @@ choice-of-rounds s wish lent a room =
 
 -- ---- what is told before the rounds, and after them
 
-module _ (s : Sheet) (wish : ℕ) (lent : PlanAreas) where
+module _ (s : Sheet) (wish : ℕ) (lent : PlanAreas) (t : Admission) (is : t ≡ tested s (plan-room s (length (lent .trains)) (length (lent .times)))) where
   abbrev room : Bool
   room = plan-room s (length (lent .trains)) (length (lent .times))
 
-  -- a refusal, and the areas as found
-  pub told-refused : (t : Admission) (f : Refusal) → t ≡ tested s room → t ≡ outcome.Refused f → ChoiceTold s (choose-to s wish lent) (Refused f) lent lent
+  pub told-refused : (f : Refusal) → t ≡ outcome.Refused f → ChoiceTold s (choose-to s wish lent) (Refused f) lent lent
   unfolding choose-to choice-reply plan-left
-  told-refused t f is e = rw (answer-refused s room (choose s wish) f (sym is ∙ e)) (record { replied = refl; areas-left = refl })
+  told-refused f e = told-first choice-reply (plan-left s) s room (choose s wish) lent t is f e refl
 
-  -- what the rounds tell is what the call tells
-  pub told-rounds : (t : Admission) → t ≡ tested s room → t ≡ outcome.Granted → (r : ChoiceReply) (left : PlanAreas) → ChoiceTold s (choose s wish) r left lent
+  pub told-rounds : t ≡ outcome.Granted → (r : ChoiceReply) (left : PlanAreas) → ChoiceTold s (choose s wish) r left lent
       → ChoiceTold s (choose-to s wish lent) r left lent
   unfolding choose-to
-  told-rounds t is e r left told = rw (answer-granted s room (choose s wish) (sym is ∙ e)) told
-
-  -- a sheet that passes is admitted, and the areas have room
-  pub admitted : (t : Admission) → t ≡ tested s room → t ≡ outcome.Granted → Admitted s
-  admitted t is e = passed s room (sym is ∙ e) .admitted
-
-  pub has-room : (t : Admission) → t ≡ tested s room → t ≡ outcome.Granted → PlanRoom s lent
-  has-room t is e = test-means (decides-plan-room s lent) (passed s room (sym is ∙ e) .has-room)
+  told-rounds e = told-then choice-reply (plan-left s) s room (choose s wish) lent t is e
 
 -- ---- the contract
 
@@ -118,7 +110,7 @@ module _ (s : Sheet) (wish : ℕ) (r : ChoiceReply) (left found : PlanAreas) (to
           let worst : e .pair .worst ≡ p .worst = cc in
           let room = plan-room s (length (found .trains)) (length (found .times)) in
           let (granted, is) = accepted s room (choose s wish) u in
-          let a = passed s room granted .admitted in
+          let a = passed s room granted .0 in
           let here : left ≡ plan-left s (given e) found = told .areas-left ∙ ap (λ (x : Answer Entry). plan-left s x found) u in
           record {
             admitted = a;

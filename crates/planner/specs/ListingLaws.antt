@@ -6,7 +6,7 @@ use Prim.Native.Nat.{ℕ, _≤_}
 use native.Mathlib.Omega.{arith}
 use lib.IntN.{ℤ}
 use lib.ListN.{length}
-use Rattle.numbers.specs.DecidesLaws.{test-true, test-means}
+use Rattle.numbers.specs.DecidesLaws.{test-true}
 use Rattle.numbers.specs.Over.{over}
 use Rattle.model.specs.Sheet.{Sheet}
 use Rattle.model.specs.Schedule.{Schedule}
@@ -25,7 +25,7 @@ use Rattle.rounds.specs.Told.{ListTold}
 use Rattle.front.specs.Front.{Front, listed-is-front}
 use Rattle.planner.specs.InAreas.{pairs-in}
 use Rattle.planner.specs.InAreasLaws.{pairs-read}
-use Rattle.planner.specs.CallLaws.{passed, passes, answer-refused, answer-granted, accepted}
+use Rattle.planner.specs.CallLaws.{passed, passes, answer-granted, accepted, told-first, told-then}
 use Rattle.planner.specs.Listing.{ListingCall}
 
 -- "then 8 or 9": what the rounds answer to a sheet that passes the tests
@@ -36,28 +36,14 @@ list-of-rounds s lent a room =
 
 -- ---- what is told before the rounds, and after them
 
-module _ (s : Sheet) (lent : List ℤ) where
-  abbrev tests : Admission
-  tests = tested s (list-room s (length lent))
-
-  -- a refusal, and the area as found
-  pub told-refused : (t : Admission) (f : Refusal) → t ≡ tests → t ≡ outcome.Refused f → ListTold (list-to s lent) (Refused f) lent lent
+module _ (s : Sheet) (lent : List ℤ) (t : Admission) (is : t ≡ tested s (list-room s (length lent))) where
+  pub told-refused : (f : Refusal) → t ≡ outcome.Refused f → ListTold (list-to s lent) (Refused f) lent lent
   unfolding list-to list-reply list-left
-  told-refused t f is e =
-      rw (answer-refused s (list-room s (length lent)) (list s) f (sym is ∙ e)) (record { replied = refl; area-left = refl })
+  told-refused f e = told-first list-reply list-left s (list-room s (length lent)) (list s) lent t is f e refl
 
-  -- what the rounds tell is what the call tells
-  pub told-rounds : (t : Admission) → t ≡ tests → t ≡ outcome.Granted → (r : ListReply) (left : List ℤ) → ListTold (list s) r left lent
-      → ListTold (list-to s lent) r left lent
+  pub told-rounds : t ≡ outcome.Granted → (r : ListReply) (left : List ℤ) → ListTold (list s) r left lent → ListTold (list-to s lent) r left lent
   unfolding list-to
-  told-rounds t is e r left told = rw (answer-granted s (list-room s (length lent)) (list s) (sym is ∙ e)) told
-
-  -- a sheet that passes is admitted, and the area has room
-  pub admitted : (t : Admission) → t ≡ tests → t ≡ outcome.Granted → Admitted s
-  admitted t is e = passed s (list-room s (length lent)) (sym is ∙ e) .admitted
-
-  pub has-room : (t : Admission) → t ≡ tests → t ≡ outcome.Granted → ListRoom s lent
-  has-room t is e = test-means (decides-list-room s lent) (passed s (list-room s (length lent)) (sym is ∙ e) .has-room)
+  told-rounds e = told-then list-reply list-left s (list-room s (length lent)) (list s) lent t is e
 
 -- ---- the contract
 
@@ -88,9 +74,9 @@ module _ (s : Sheet) (r : ListReply) (left found : List ℤ) (told : ListTold (l
       go : ((l : Listing) × (list-to s found ≡ given l) × (pairs ≡ length (l .pairs))) → Front s (pairs-in pairs left)
       go (l, u, many) =
           let (granted, is) = accepted s (list-room s (length found)) (list s) u in
-          let a = passed s (list-room s (length found)) granted .admitted in
+          let a = passed s (list-room s (length found)) granted .0 in
           let written = over (pair-numbers (l .pairs)) found in
-          let here : left ≡ written = told .area-left ∙ ap (λ (x : Answer Listing). list-left x found) u in
+          let here : left ≡ written = told .areas-left ∙ ap (λ (x : Answer Listing). list-left x found) u in
           let read : pairs-in pairs left ≡ l .pairs =
           ap (pairs-in pairs) here ∙ ap (λ (k : ℕ). pairs-in k written) many ∙ pairs-read (l .pairs) found in
           subst (Front s) (sym read) (listed-is-front s a is)
@@ -103,5 +89,5 @@ module _ (s : Sheet) (r : ListReply) (left found : List ℤ) (told : ListTold (l
         front = front;
         eight = λ a room. rw (told .replied, list-of-rounds s found a room) (eight-listed s a);
         returns-zero = rw (told .replied) (list-returns s found);
-        as-found = λ l. told .area-left ∙ list-as-found (list-to s found) found (subst (λ (x : ListReply). 1 ≤ numberOf (of-listing x)) (told .replied) l);
+        as-found = λ l. told .areas-left ∙ list-as-found (list-to s found) found (subst (λ (x : ListReply). 1 ≤ numberOf (of-listing x)) (told .replied) l);
       }

@@ -74,11 +74,11 @@ module _ (s : Sheet) where
       → ListTold (list-of (ended c entries)) (listed-so count c) area found
   unfolding list-of list-reply list-left listed pair-numbers
   told-listed c count [] last area found h =
-      record { replied = cond-yes (decides-eq count 0) (h .count-is) _ _; area-left = h .area-is }
+      record { replied = cond-yes (decides-eq count 0) (h .count-is) _ _; areas-left = h .area-is }
   told-listed c count (e ∷ es) last area found h =
       let some : ¬ (count ≡ 0) = λ z. omega (arith, z, h .count-is) in
       let many : count ≡ length (listed (e ∷ es)) = h .count-is ∙ sym (listed-length (e ∷ es)) in
-      record { replied = cond-no (decides-eq count 0) some _ _ ∙ rw many refl; area-left = h .area-is }
+      record { replied = cond-no (decides-eq count 0) some _ _ ∙ rw many refl; areas-left = h .area-is }
 
   pub list-ended : (p : Progress) (count : ℕ) (area found : List ℤ) → Running s p → p .ended ≡ true
       → Lists found (held-list count (p .last) area) (recorded-now s p) → ListTold (list s) (listed-so count (p .rounds)) area found

@@ -6,7 +6,7 @@ use Rattle.numbers.specs.OneMoreLaws.{All}
 use Rattle.model.specs.Sheet.{Sheet}
 use Rattle.model.specs.declared.ChoiceReply.{ChoiceReply}
 use Rattle.rounds.specs.Recording.{Entry, no-entry}
-use Rattle.rounds.specs.Rounds.{recorded-in, start, rounds}
+use Rattle.rounds.specs.Rounds.{start, rounds, recorded-after}
 use Rattle.rounds.specs.Answers.{chosen}
 use Rattle.rounds.specs.Areas.{PlanAreas}
 use Rattle.rounds.specs.Told.{ChoiceTold}
@@ -21,7 +21,7 @@ pub record Running (s : Sheet) (p : Progress) : Type 0 where
 
 -- what is recorded by then
 abbrev pub recorded-now : Sheet → Progress → List Entry
-recorded-now s p = recorded-in (rounds s (p .rounds) (start s))
+recorded-now s p = recorded-after s (p .rounds)
 
 -- of these entries the choice is held, where the arrival recorded last is `last`: what would be told now is what they answer to the wish, in the areas too,
 -- and while the last one is in time all are

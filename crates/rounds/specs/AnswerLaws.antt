@@ -16,12 +16,12 @@ use Rattle.rounds.specs.RoundsLaws.{search-at-end}
 use Rattle.rounds.specs.Answers.{Answer, refused, given, Listing, list-of, list}
 use Rattle.rounds.specs.ListLaws.{list-given}
 use Rattle.rounds.specs.InvariantLaws.{Over, at-end, search-over, at-start, next-schedule}
-use Rattle.rounds.specs.EndLaws.{Unschedulable, Lists, Found, nothing, entries, found}
+use Rattle.rounds.specs.EndLaws.{Unschedulable, ListsFront, Found, nothing, entries, found}
 
 -- 8, and there is no schedule; or a listing. It is never 9.
 pub data Answered (s : Sheet) : Answer Listing → Type 0 where
   no-schedule : Unschedulable s → Answered s (refused NoSchedule)
-  listing : {l : Listing} → Lists s l → Answered s (given l)
+  listing : {l : Listing} → ListsFront s l → Answered s (given l)
 
 module _ (s : Sheet) (a : Admitted s) where
   pub answered : Answered s (list s)
@@ -34,10 +34,10 @@ module _ (s : Sheet) (a : Admitted s) where
 
   -- ---- read off
 
-  pub listed-so : {l : Listing} → list s ≡ given l → Lists s l
+  pub listed-so : {l : Listing} → list s ≡ given l → ListsFront s l
   listed-so {l} e = go (subst (Answered s) e answered)
     where
-      go : Answered s (given l) → Lists s l
+      go : Answered s (given l) → ListsFront s l
       go (listing h) = h
 
   pub eight-means : list s ≡ refused NoSchedule → Unschedulable s

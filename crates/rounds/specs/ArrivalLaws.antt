@@ -17,7 +17,7 @@ use Rattle.rounds.specs.Recording.{Plan, Entry, record-entry, no-entry, 
 use Rattle.rounds.specs.RecordingLaws.{record-last, arrival-behind, arrival-recorded}
 use Rattle.rounds.specs.EntryPlan.{EntryPlan}
 use Rattle.rounds.specs.Lowering.{lower, crowded}
-use Rattle.rounds.specs.Rounds.{Search, going, ended, recorded-in, start, loading, times, settle, grade, depart, round, rounds}
+use Rattle.rounds.specs.Rounds.{Search, going, ended, recorded-in, start, loading, times, settle, grade, depart, round, rounds, recorded-after}
 use Rattle.rounds.specs.RoundsLaws.{one-round-more}
 use Rattle.rounds.specs.FrontSoFarLaws.{Recorded, nothing-yet, so-far, belongs-to, not-before}
 use Rattle.rounds.specs.InvariantLaws.{entry-plans, reached}
@@ -74,9 +74,6 @@ pub data Next (recorded : List Entry) : List Entry → Type 0 where
   one-more : (e : Entry) → recorded-arrival recorded ≤ e .pair .last → Next recorded (record-entry recorded e)
 
 module _ (s : Sheet) (a : Admitted s) where
-  abbrev recorded-after : ℕ → List Entry
-  recorded-after k = recorded-in (rounds s k (start s))
-
   not-earlier : (y : ℤ) (recorded : List Entry) → Recorded s y recorded → (e : Entry) → EntryPlan s e → e .pair .worst <ℤ y
       → recorded-arrival recorded ≤ e .pair .last
   unfolding last-entry
@@ -92,7 +89,7 @@ module _ (s : Sheet) (a : Admitted s) where
       let (before, u) = record-last recorded e in
       one-more e (not-earlier y recorded r e (all-new no-entry before e (EntryPlan s) (rw u at plans)) better)
 
-  pub next-recorded : (k : ℕ) → Next (recorded-after k) (recorded-after (k + 1))
+  pub next-recorded : (k : ℕ) → Next (recorded-after s k) (recorded-after s (k + 1))
   unfolding round
   next-recorded k = rw (one-round-more s k (start s)) (go (rounds s k (start s)) refl (rw (one-round-more s k (start s)) at (entry-plans s a (k + 1))))
     where
@@ -102,7 +99,7 @@ module _ (s : Sheet) (a : Admitted s) where
           next-is y recorded _ (reached s a k c latest y recorded u .on-record .front) plans (round-records s c latest y recorded)
 
   -- ARRIVALS NEVER FALL
-  pub arrivals-never-fall : (k : ℕ) → recorded-arrival (recorded-after k) ≤ recorded-arrival (recorded-after (k + 1))
+  pub arrivals-never-fall : (k : ℕ) → recorded-arrival (recorded-after s k) ≤ recorded-arrival (recorded-after s (k + 1))
   arrivals-never-fall k = go _ _ (next-recorded k)
     where
       go : (recorded after : List Entry) → Next recorded after → recorded-arrival recorded ≤ recorded-arrival after
@@ -110,9 +107,9 @@ module _ (s : Sheet) (a : Admitted s) where
       go recorded after (one-more e l) = rw (arrival-recorded recorded e) l
 
   -- nor over several rounds
-  pub arrivals-in-order : (k m : ℕ) → k ≤ m → recorded-arrival (recorded-after k) ≤ recorded-arrival (recorded-after m)
+  pub arrivals-in-order : (k m : ℕ) → k ≤ m → recorded-arrival (recorded-after s k) ≤ recorded-arrival (recorded-after s m)
   arrivals-in-order k m l = let e : k + (m - k) ≡ m = omega arith in rw e at (go (m - k))
     where
-      go : (j : ℕ) → recorded-arrival (recorded-after k) ≤ recorded-arrival (recorded-after (k + j))
+      go : (j : ℕ) → recorded-arrival (recorded-after s k) ≤ recorded-arrival (recorded-after s (k + j))
       go zero = let e : k + 0 ≡ k = omega arith in rw e (omega arith)
       go (suc j) = let e : k + suc j ≡ k + j + 1 = omega arith in rw e (omega (arith, go j, arrivals-never-fall (k + j)))

@@ -4,66 +4,56 @@ use mathlib.Core.Logic.{_⊎_, inl, inr}
 use mathlib.Core.List.{List, [], _∷_}
 use Prim.Native.Nat.{ℕ, _≤_, _<_}
 use native.Mathlib.Omega.{arith}
-use lib.ListN.{length}
 use Rattle.numbers.specs.DecidesLaws.{decides-le, decided}
 use Rattle.numbers.specs.OneMoreLaws.{All}
 use Rattle.model.specs.Sheet.{Sheet}
-use Rattle.model.specs.Schedule.{Schedule}
-use Rattle.model.specs.Lateness.{Pair, pairOf, pair-at}
+use Rattle.model.specs.Lateness.{Pair, pair-at}
 use Rattle.model.specs.Admission.{Admitted}
 use Rattle.model.specs.declared.Refusal.the-variants.{NoSchedule, WishTooEarly}
 use Rattle.rounds.specs.Recording.{Entry, listed, no-entry}
 use Rattle.rounds.specs.RecordingLaws.{listed-length, listed-at}
 use Rattle.rounds.specs.EntryPlan.{EntryPlan}
+use Rattle.rounds.specs.ChosenPair.{LastInTime, TooEarly}
 use Rattle.rounds.specs.Rounds.{Search, search}
 use Rattle.rounds.specs.Answers.{Answer, refused, given, Listing, list-of, list, chosen, choice-of, choose}
 use Rattle.rounds.specs.ListLaws.{list-given}
 use Rattle.rounds.specs.InTimeLaws.{LastAt, when-timely, when-late, last-at}
 use Rattle.rounds.specs.PairListLaws.{in-order}
 use Rattle.rounds.specs.FrontSoFarLaws.{Belongs}
-use Rattle.rounds.specs.EndLaws.{Unschedulable, Lists, listing-of, Found, nothing, entries, found}
+use Rattle.rounds.specs.EndLaws.{Unschedulable, ListsFront, listing-of, Found, nothing, entries, found}
 
 -- e has its plan, and its pair is the last listed one that is not later than the wish
 pub record Choice (s : Sheet) (wish : ℕ) (e : Entry) : Type 0 where
   pub plan : EntryPlan s e
   pub listing : Listing
   pub is-list : list s ≡ given listing
-  pub lists : Lists s listing
-  pub place : ℕ
-  pub among : place < length (listing .pairs)
-  pub is : pair-at (listing .pairs) place ≡ e .pair
-  pub timely : e .pair .last ≤ wish
-  pub later : (k : ℕ) → place < k → k < length (listing .pairs) → wish < pair-at (listing .pairs) k .last
+  pub lists : ListsFront s listing
+  pub last : LastInTime wish (listing .pairs) (e .pair)
 
--- there is a schedule, and none arrives by the wish
-pub record AllLate (s : Sheet) (wish : ℕ) : Type 0 where
-  pub some : (train : List ℕ) × (departure : List ℕ) × Schedule s train departure
-  pub late : (train departure : List ℕ) → Schedule s train departure → wish < pairOf s train departure .last
-
--- then each schedule's pair is late
-pub pair-late : (s : Sheet) (wish : ℕ) → AllLate s wish → (p : Pair) → Belongs s p → wish < p .last
-pair-late s wish h p (train, departure, schedule, own) = subst (λ (p : Pair). wish < p .last) own (h .late train departure schedule)
+-- where the wish is too early each schedule's pair is late
+pub pair-late : (s : Sheet) (wish : ℕ) → TooEarly s wish → (p : Pair) → Belongs s p → wish < p .last
+pair-late s wish h p (train, departure, schedule, own) = subst (λ (p : Pair). wish < p .last) own (h .later train departure schedule)
 
 -- 8, 11 or a choice. It is never 9.
 pub data Chose (s : Sheet) (wish : ℕ) : Answer Entry → Type 0 where
   no-schedule : Unschedulable s → Chose s wish (refused NoSchedule)
-  too-early : AllLate s wish → Chose s wish (refused WishTooEarly)
+  too-early : TooEarly s wish → Chose s wish (refused WishTooEarly)
   choice : {e : Entry} → Choice s wish e → Chose s wish (given e)
 
 module _ (s : Sheet) (wish : ℕ) where
   -- the first listed pair is late, so every schedule is
-  pub all-late : (l : Listing) → Lists s l → wish < pair-at (l .pairs) 0 .last → AllLate s wish
+  pub all-late : (l : Listing) → ListsFront s l → wish < pair-at (l .pairs) 0 .last → TooEarly s wish
   all-late l h late =
       let (train, departure, schedule, own) = h .belong 0 (h .not-empty) in
       record {
         some = (train, departure, schedule);
-        late = λ train departure schedule.
+        later = λ train departure schedule.
             let (k, among, good) = h .cover train departure schedule in
             omega (arith, in-order (l .pairs) (h .rise) 0 k (omega arith) among .0, good .no-later);
       }
 
-  choice-is : (c : ℕ) (recorded : List Entry) → list s ≡ given (listing-of c recorded) → Lists s (listing-of c recorded) → All no-entry (EntryPlan s) recorded
-      → (e : Entry) → LastAt wish recorded e → Choice s wish e
+  choice-is : (c : ℕ) (recorded : List Entry) → list s ≡ given (listing-of c recorded) → ListsFront s (listing-of c recorded)
+      → All no-entry (EntryPlan s) recorded → (e : Entry) → LastAt wish recorded e → Choice s wish e
   choice-is c recorded is-list lists plans e h =
       let many = listed-length recorded in
       record {
@@ -71,11 +61,14 @@ module _ (s : Sheet) (wish : ℕ) where
         listing = listing-of c recorded;
         is-list = is-list;
         lists = lists;
-        place = h .place;
-        among = omega (arith, h .among);
-        is = listed-at recorded (h .place) ∙ ap (λ (x : Entry). x .pair) (h .is);
-        timely = h .timely;
-        later = λ k u v. rw (listed-at recorded k) (h .later k u (omega arith));
+        last =
+            record {
+              place = h .place;
+              among = omega (arith, h .among);
+              is = listed-at recorded (h .place) ∙ ap (λ (x : Entry). x .pair) (h .is);
+              in-time = h .timely;
+              later = λ k u v. rw (listed-at recorded k) (h .later k u (omega arith));
+            };
       }
 
   choose-is : (x : Search) → list s ≡ list-of x → Found s x → Chose s wish (choice-of wish x)

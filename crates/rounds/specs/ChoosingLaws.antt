@@ -14,7 +14,7 @@ use Rattle.model.specs.declared.Refusal.the-variants.{NoSchedule, WishTooEarly}
 use Rattle.rounds.specs.Timing.{stopped}
 use Rattle.rounds.specs.Recording.{Entry, record-entry, listed, no-entry, last-entry, recorded-arrival}
 use Rattle.rounds.specs.RecordingLaws.{listed-length, listed-at}
-use Rattle.rounds.specs.Rounds.{Search, ended, recorded-in, start, first-timing, rounds, search}
+use Rattle.rounds.specs.Rounds.{Search, ended, recorded-in, start, first-timing, rounds, recorded-after, search}
 use Rattle.rounds.specs.RoundsLaws.{search-at-end}
 use Rattle.rounds.specs.Answers.{Answer, refused, given, Listing, list-of, list, last-arrival-in, in-time, last-in-time, chosen, choice-of, choose}
 use Rattle.rounds.specs.ListLaws.{list-given, last-arrival-at}
@@ -59,23 +59,20 @@ unfolding choose choice-of
 choice-at-end s wish k c recorded l e = ap (choice-of wish) (search-at-end s k c recorded l e)
 
 module _ (s : Sheet) (a : Admitted s) (wish : ℕ) where
-  abbrev recorded-after : ℕ → List Entry
-  recorded-after k = recorded-in (rounds s k (start s))
-
   some-recorded : (recorded : List Entry) → wish < recorded-arrival recorded → 1 ≤ length recorded
   unfolding last-entry
   some-recorded [] l = absurd (omega arith)
   some-recorded (e ∷ es) l = omega arith
 
   -- after a late entry no round changes the choice
-  one-round-settled : (k : ℕ) → wish < recorded-arrival (recorded-after k) → chosen wish (recorded-after (k + 1)) ≡ chosen wish (recorded-after k)
+  one-round-settled : (k : ℕ) → wish < recorded-arrival (recorded-after s k) → chosen wish (recorded-after s (k + 1)) ≡ chosen wish (recorded-after s k)
   one-round-settled k = go _ _ (next-recorded s a k)
     where
       go : (recorded after : List Entry) → Next recorded after → wish < recorded-arrival recorded → chosen wish after ≡ chosen wish recorded
       go recorded after no-more late = refl
       go recorded after (one-more e l) late = later-leaves wish recorded e (some-recorded recorded late) (omega arith)
 
-  settled : (k j : ℕ) → wish < recorded-arrival (recorded-after k) → chosen wish (recorded-after (k + j)) ≡ chosen wish (recorded-after k)
+  settled : (k j : ℕ) → wish < recorded-arrival (recorded-after s k) → chosen wish (recorded-after s (k + j)) ≡ chosen wish (recorded-after s k)
   settled k zero late = let e : k + 0 ≡ k = omega arith in rw e
   settled k (suc j) late =
       let e : k + suc j ≡ k + j + 1 = omega arith in
@@ -89,7 +86,7 @@ module _ (s : Sheet) (a : Admitted s) (wish : ℕ) where
       go x (at-end h) = refl
 
   -- ONCE THE PAIR RECORDED LAST IS LATER THAN THE WISH THE CHOICE IS SETTLED
-  pub choice-settled : (k : ℕ) → k ≤ s .orders * s .trains → wish < recorded-arrival (recorded-after k) → choose s wish ≡ chosen wish (recorded-after k)
+  pub choice-settled : (k : ℕ) → k ≤ s .orders * s .trains → wish < recorded-arrival (recorded-after s k) → choose s wish ≡ chosen wish (recorded-after s k)
   unfolding search
   choice-settled k l late =
       let e : k + (s .orders * s .trains - k) ≡ s .orders * s .trains = omega arith in

@@ -27,8 +27,8 @@ use Rattle.rounds.specs.InvariantLaws.{Over, at-end, search-over}
 abbrev pub Unschedulable : Sheet → Type 0
 Unschedulable s = (train departure : List ℕ) → ¬ Schedule s train departure
 
--- the parts of a listing
-pub record Lists (s : Sheet) (l : Listing) : Type 0 where
+-- a listing is the front, by rising arrival, of no more rounds and pairs than the bound
+pub record ListsFront (s : Sheet) (l : Listing) : Type 0 where
   pub belong : All no-pair (Belongs s) (l .pairs)
   pub cover : (train departure : List ℕ) → Schedule s train departure → Some no-pair (Matches s train departure) (l .pairs)
   pub rise : Rising (l .pairs)
@@ -43,13 +43,13 @@ listing-of c recorded = record { pairs = listed recorded; rounds = c }
 -- nothing is recorded, and there is no schedule; or entries are, each with its plan, and their pairs are listed
 pub data Found (s : Sheet) : Search → Type 0 where
   nothing : {c : ℕ} → Unschedulable s → Found s (ended c [])
-  entries : {c : ℕ} (recorded : List Entry) → 1 ≤ length recorded → All no-entry (EntryPlan s) recorded → Lists s (listing-of c recorded)
+  entries : {c : ℕ} (recorded : List Entry) → 1 ≤ length recorded → All no-entry (EntryPlan s) recorded → ListsFront s (listing-of c recorded)
       → Found s (ended c recorded)
 
 module _ (s : Sheet) where
   listing-is : (before : List Entry) (e : Entry) (c : ℕ) → FrontSoFar s (listed before) (e .pair) → All no-entry (EntryPlan s) (before ++ (e ∷ []))
       → ((train departure : List ℕ) → Schedule s train departure → ¬ (pairOf s train departure .worst <ℤ e .pair .worst))
-      → c ≤ rounds-bound s → length (before ++ (e ∷ [])) ≤ c → Lists s (listing-of c (before ++ (e ∷ [])))
+      → c ≤ rounds-bound s → length (before ++ (e ∷ [])) ≤ c → ListsFront s (listing-of c (before ++ (e ∷ [])))
   listing-is before e c h plans none-below few-rounds few =
       let pairs = listed-behind before e in
       let many = listed-length (before ++ (e ∷ [])) in

@@ -5,6 +5,7 @@ pub mod TimingLaws
 pub mod Recording
 pub mod RecordingLaws
 pub mod EntryPlan
+pub mod ChosenPair
 pub mod Lowering
 pub mod LoweringLaws
 pub mod Rounds

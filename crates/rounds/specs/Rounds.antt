@@ -84,6 +84,10 @@ unfolding round
 rounds s zero x = x
 rounds s (suc k) x = rounds s k (round s x)
 
+-- what is recorded after k rounds
+abbrev pub recorded-after : Sheet → ℕ → List Entry
+recorded-after s k = recorded-in (rounds s k (start s))
+
 -- "A round numbered n × q + 1 isn't begun"
 unfoldable pub search : Sheet → Search
 unfolding rounds start

@@ -1,4 +1,4 @@
--- WHAT A CALL TELLS OF AN ANSWER: its reply, and what it leaves in the areas that it fills. "it is the one that these rounds give".
+-- WHAT A CALL TELLS OF AN ANSWER: its reply, and what it leaves in the areas that it fills.
 use mathlib.Core.Path.{_≡_}
 use mathlib.Core.List.{List}
 use Prim.Native.Nat.{ℕ}
@@ -10,16 +10,18 @@ use Rattle.rounds.specs.Recording.{Entry}
 use Rattle.rounds.specs.Answers.{Answer, Listing}
 use Rattle.rounds.specs.Areas.{PlanAreas, list-reply, list-left, choice-reply, plan-left}
 
--- the listing call: the reply r and the pairs area left are those of the answer x
-pub record ListTold (x : Answer Listing) (r : ListReply) (left found : List ℤ) : Type 0 where
-  pub replied : r ≡ list-reply x
-  pub area-left : left ≡ list-left x found
+-- "it is the one that these rounds give": the reply r and the areas left are those of the answer x, by what a call of this kind replies and leaves
+pub record Told {A R L : Type 0} (replies : Answer A → R) (leaves : Answer A → L → L) (x : Answer A) (r : R) (left found : L) : Type 0 where
+  pub replied : r ≡ replies x
+  pub areas-left : left ≡ leaves x found
 
--- the areas that the choosing call fills
+-- the listing call, which fills the pairs area
+abbrev pub ListTold : Answer Listing → ListReply → (left found : List ℤ) → Type 0
+ListTold x r left found = Told list-reply list-left x r left found
+
+-- the choosing call, which fills the areas for trains and times
+abbrev pub ChoiceTold : Sheet → Answer Entry → ChoiceReply → (left found : PlanAreas) → Type 0
+ChoiceTold s x r left found = Told choice-reply (plan-left s) x r left found
+
 abbrev pub areas : (trains times : List ℕ) → PlanAreas
 areas trains times = record { trains = trains; times = times }
-
--- the choosing call: the reply r and both areas left are those of the answer x
-pub record ChoiceTold (s : Sheet) (x : Answer Entry) (r : ChoiceReply) (left found : PlanAreas) : Type 0 where
-  pub replied : r ≡ choice-reply x
-  pub areas-left : left ≡ plan-left s x found

@@ -13,6 +13,7 @@ use Rattle.model.specs.Memory.{sheetOf}
 use Rattle.model.specs.Sheet.{Sheet}
 use Rattle.model.specs.Admission.{Admitted}
 use Rattle.rounds.specs.Areas.{PlanAreas, PlanRoom}
+use Rattle.rounds.specs.AreaLaws.{decides-plan-room}
 use Rattle.rounds.specs.Told.{areas}
 use Rattle.search.specs.Shows.{recorded-by}
 use Rattle.search.specs.declared.Progress.{Progress}
@@ -20,7 +21,8 @@ use Rattle.search.specs.RunLaws.{not-yet, by-now}
 use Rattle.planner.specs.SoFar.{Running, recorded-now, Holds}
 use Rattle.planner.specs.ChoiceRoundLaws.{both, not-both, choice-begun, choice-taken, choice-kept, choice-ended}
 use Rattle.planner.specs.RunningLaws.{begun, more, reached, next, next-better}
-use Rattle.planner.specs.ChoosingLaws.{told-refused, told-rounds, admitted, has-room, choosing-call}
+use Rattle.planner.specs.ChoosingLaws.{told-refused, told-rounds, choosing-call}
+use Rattle.planner.specs.CallLaws.{admitted, has-room}
 use Rattle.planner.proofs.choosing.choose.Statement.{statement}
 use Rattle.planner.proofs.choosing.choose.Tie as tie
 
@@ -64,18 +66,18 @@ returns c =
     let t = c .before .before .before in
     let s = t .before .before .before in
     choosing-call (sheetOf (s .args .sheet)) (s .args .wish) _ (found s) (found s)
-    (told-refused (sheetOf (s .args .sheet)) (s .args .wish) (found s) _ _ (t .for-choosing .ensures) (c .before .tested .given .1))
+    (told-refused (sheetOf (s .args .sheet)) (s .args .wish) (found s) _ (t .for-choosing .ensures) _ (c .before .tested .given .1))
 
 module _ (c : tie.After-enum-told Inv-loop μ-loop) where
   passes : Admitted (sheetOf (entry c .args .sheet))
   passes =
       let s = entry c in
-      admitted (sheetOf (s .args .sheet)) (s .args .wish) (found s) _ (c .before .before .for-choosing .ensures) (c .enum-told .given .1)
+      admitted (sheetOf (s .args .sheet)) _ _ (c .before .before .for-choosing .ensures) (c .enum-told .given .1)
 
   room : PlanRoom (sheetOf (entry c .args .sheet)) (found (entry c))
   room =
-      let s = entry c in
-      has-room (sheetOf (s .args .sheet)) (s .args .wish) (found s) _ (c .before .before .for-choosing .ensures) (c .enum-told .given .1)
+      let m = sheetOf (entry c .args .sheet) in
+      has-room m (decides-plan-room m (found (entry c))) _ (c .before .before .for-choosing .ensures) (c .enum-told .given .1)
 
 loop-holds : tie.Need-loop-holds Inv-loop μ-loop
 loop-holds c =

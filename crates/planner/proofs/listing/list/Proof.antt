@@ -15,13 +15,15 @@ use Rattle.model.specs.Sheet.{Sheet}
 use Rattle.model.specs.Admission.{Admitted}
 use Rattle.rounds.specs.Recording.{Entry}
 use Rattle.rounds.specs.RecordingLaws.{record-lengthens}
+use Rattle.rounds.specs.AreaLaws.{decides-list-room}
 use Rattle.recording.specs.Recorded.{held-list, Lists}
 use Rattle.search.specs.Shows.{shown-entry, recorded-by}
 use Rattle.search.specs.declared.Progress.{Progress}
 use Rattle.search.specs.RunLaws.{not-yet, by-now}
 use Rattle.planner.specs.SoFar.{Running, recorded-now}
 use Rattle.planner.specs.RunningLaws.{begun, more, reached, next, next-better, next-same, list-begun, list-better, list-same, list-ended}
-use Rattle.planner.specs.ListingLaws.{told-refused, told-rounds, admitted, has-room, listing-call}
+use Rattle.planner.specs.ListingLaws.{told-refused, told-rounds, listing-call}
+use Rattle.planner.specs.CallLaws.{admitted, has-room}
 use Rattle.planner.proofs.listing.list.Statement.{statement}
 use Rattle.planner.proofs.listing.list.Tie as tie
 
@@ -51,12 +53,12 @@ returns c =
     let t = c .before .before .before in
     let a = t .before .args in
     listing-call (sheetOf (a .sheet)) _ (a .pairs .now) (a .pairs .now)
-    (told-refused (sheetOf (a .sheet)) (a .pairs .now) _ _ (t .for-listing .ensures) (c .before .tested .given .1))
+    (told-refused (sheetOf (a .sheet)) (a .pairs .now) _ (t .for-listing .ensures) _ (c .before .tested .given .1))
 
 passes : (c : tie.After-enum-told Inv-loop μ-loop) → Admitted (sheetOf (entry c .args .sheet))
 passes c =
     let a = entry c .args in
-    admitted (sheetOf (a .sheet)) (a .pairs .now) _ (c .before .before .for-listing .ensures) (c .enum-told .given .1)
+    admitted (sheetOf (a .sheet)) _ _ (c .before .before .for-listing .ensures) (c .enum-told .given .1)
 
 loop-holds : tie.Need-loop-holds Inv-loop μ-loop
 loop-holds c =
@@ -89,7 +91,8 @@ list-pair-requires c κs =
     let a = entry g .args in
     let admitted = passes g in
     let few = mul-le-mul (admitted .few .orders) (admitted .few .trains) in
-    let room = has-room (sheetOf (a .sheet)) (a .pairs .now) _ (g .before .before .for-listing .ensures) (g .enum-told .given .1) in
+    let s = sheetOf (a .sheet) in
+    let room = has-room s (decides-list-room s (a .pairs .now)) _ (g .before .before .for-listing .ensures) (g .enum-told .given .1) in
     let inv = here t .loop .inv in
     (omega (arith, within t, room, inv .2, inv .3), omega (arith, within t, inv .2, few))
 

@@ -1,0 +1,27 @@
+-- WHAT HOLDS OF A CHOSEN PAIR, AND WHEN A WISH IS TOO EARLY (document 02, No. 1; proved in ChoiceLaws.antt and ChosenLaws.antt).
+use mathlib.Core.Path.{_≡_}
+use mathlib.Core.List.{List}
+use Prim.Native.Nat.{ℕ, _≤_, _<_}
+use lib.ListN.{length}
+use lib.Signed.{_≤ℤ_}
+use Rattle.model.specs.Sheet.{Sheet}
+use Rattle.model.specs.Schedule.{Schedule}
+use Rattle.model.specs.Lateness.{Pair, pairOf, pair-at}
+
+-- "the last listed pair not later than it"
+pub record LastInTime (wish : ℕ) (pairs : List Pair) (p : Pair) : Type 0 where
+  pub place : ℕ
+  pub among : place < length pairs
+  pub is : pair-at pairs place ≡ p
+  pub in-time : p .last ≤ wish
+  pub later : (k : ℕ) → place < k → k < length pairs → wish < pair-at pairs k .last
+
+-- "and none that arrives in time has a smaller worst lateness"
+abbrev pub Best : (s : Sheet) (wish : ℕ) (p : Pair) → Type 0
+Best s wish p =
+    (train departure : List ℕ) → Schedule s train departure → pairOf s train departure .last ≤ wish → p .worst ≤ℤ pairOf s train departure .worst
+
+-- there is a schedule, and none arrives by the wish
+pub record TooEarly (s : Sheet) (wish : ℕ) : Type 0 where
+  pub some : (train : List ℕ) × (departure : List ℕ) × Schedule s train departure
+  pub later : (train departure : List ℕ) → Schedule s train departure → wish < pairOf s train departure .last
