@@ -19,8 +19,8 @@ static const joshkamber_window_sheet case_a = {
 /* Chooses by a wished arrival and prints what is given. */
 static void choose(uint32_t wish) {
     uint8_t train_of_order[ORDERS];
-    uint32_t times[2 * TRAINS];
-    joshkamber_choice choice = joshkamber_choose_windows(case_a, wish, train_of_order, ORDERS, times, 2 * TRAINS);
+    uint32_t times[3 * TRAINS];
+    joshkamber_choice choice = joshkamber_choose_windows(case_a, wish, train_of_order, ORDERS, times, 3 * TRAINS);
 
     if (choice.cause.number != 0) {
         printf("wished %" PRIu32 ": refused with %zu\n", wish, choice.cause.number);
@@ -28,7 +28,8 @@ static void choose(uint32_t wish) {
     }
     printf("wished %" PRIu32 ": given %" PRIu32 ",%" PRId64 "\n", wish, choice.last, choice.worst);
     for (int i = 0; i < TRAINS; i++) {
-        printf("  train %d leaves at %" PRIu32 ", is there at %" PRIu32 ", and carries", i + 1, times[2 * i], times[2 * i + 1]);
+        printf("  train %d leaves at %" PRIu32 " in window %" PRIu32 ", is there at %" PRIu32 ", and carries", i + 1, times[3 * i],
+               times[3 * i + 2], times[3 * i + 1]);
         for (int j = 0; j < ORDERS; j++)
             if (train_of_order[j] == i + 1)
                 printf(" %c", 'A' + j);

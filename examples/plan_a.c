@@ -20,7 +20,7 @@ static const char case_a[] =
 /* Long enough for every sheet. */
 static int64_t pairs[2 * JOSHKAMBER_MOST_ORDERS * JOSHKAMBER_MOST_TRAINS];
 static uint8_t train_of_order[JOSHKAMBER_MOST_ORDERS];
-static uint32_t times[2 * JOSHKAMBER_MOST_TRAINS];
+static uint32_t times[3 * JOSHKAMBER_MOST_TRAINS];
 
 static int refused(joshkamber_cause cause) {
     if (cause.number != 0)
@@ -47,7 +47,7 @@ int main(void) {
     for (size_t k = 0; k < list.pairs; k++)
         printf("P,%" PRId64 ",%" PRId64 "\n", pairs[2 * k], pairs[2 * k + 1]);
     for (size_t i = 0; i < read.sheet.train_count; i++)
-        printf("D,%zu,%" PRIu32 ",%" PRIu32 "\n", i + 1, times[2 * i], times[2 * i + 1]);
+        printf("D,%zu,%" PRIu32 ",%" PRIu32 ",%" PRIu32 "\n", i + 1, times[3 * i], times[3 * i + 1], times[3 * i + 2]);
     for (size_t j = 0; j < read.sheet.order_count; j++) {
         joshkamber_name_place name = joshkamber_name_in_windows(text, length, j + 1);
         printf("L,%.*s,%u\n", (int)name.length, case_a + name.start, train_of_order[j]);

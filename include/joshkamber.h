@@ -117,9 +117,11 @@ joshkamber_listing joshkamber_list_timetable(joshkamber_timetable_sheet sheet, i
  * that the first listed pair is not later than the wish: refusals 2 and 4 to 11. The lent areas, with their lengths in elements:
  *
  *    train_of_order   at least n        the train, from 1, of each order
- *    times            at least 2 q      departure and arrival of each train
+ *    times            at least 3 q      departure, arrival and window of each train
  *
- * Only the front of each is written (n and 2 q elements), and nothing where the call refuses. */
+ * Windows count from 1 in the order of the sheet, and a train's window is the one that contains its departure; in the timetable form it is 0.
+ *
+ * Only the front of each area is written (n and 3 q elements), and nothing where the call refuses. */
 joshkamber_choice joshkamber_choose_windows(joshkamber_window_sheet sheet, uint32_t wish, uint8_t *train_of_order,
                                             size_t train_of_order_length, uint32_t *times, size_t times_length);
 joshkamber_choice joshkamber_choose_timetable(joshkamber_timetable_sheet sheet, uint32_t wish, uint8_t *train_of_order,

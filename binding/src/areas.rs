@@ -1,5 +1,7 @@
 //! The areas lent to a call, with guards: values that no pair and no plan has, in each element and on both sides of the lent part.
 
+use native::plan::NUMBERS_A_TRAIN;
+
 /// How many guards stand before the lent part, and how many behind it.
 const GUARDS: usize = 8;
 
@@ -44,7 +46,7 @@ impl PairsArea {
     }
 }
 
-/// What choosing is lent: a number to an order, and two to a train.
+/// What choosing is lent: a number to an order, and three to a train.
 pub struct PlanAreas {
     pub train_of_order: Area<u8>,
     pub times: Area<u32>,
@@ -57,6 +59,6 @@ impl PlanAreas {
 
     /// The least lengths for n orders and q trains.
     pub fn least(n: usize, q: usize) -> [usize; 2] {
-        [n, 2 * q]
+        [n, NUMBERS_A_TRAIN * q]
     }
 }

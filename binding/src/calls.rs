@@ -137,7 +137,7 @@ pub fn list_timetable(sheet: &TimetableSheet, pairs: &mut [i64]) -> Listing {
 }
 
 /// Chooses the plan of the last listed pair that is not later than the wished arrival, on a sheet of the window form. For n orders and q
-/// trains the areas have at least n and 2 q elements.
+/// trains the areas have at least n and 3 q elements; the windows among those are numbered from 1.
 pub fn choose_windows(sheet: &WindowSheet, wish: u32, train_of_order: &mut [u8], times: &mut [u32]) -> Choice {
     // SAFETY: the two pointers are not null, valid for reads and writes of as many elements, and lent for this call alone, so they do not
     // overlap. The call writes in no other memory, keeps nothing, takes any wish, and tests the sheet and the lengths itself.
@@ -153,7 +153,7 @@ pub fn choose_windows(sheet: &WindowSheet, wish: u32, train_of_order: &mut [u8],
     }
 }
 
-/// The same on a sheet of the timetable form, with areas as for `choose_windows`.
+/// The same on a sheet of the timetable form, with areas as for `choose_windows`; the windows are 0.
 pub fn choose_timetable(sheet: &TimetableSheet, wish: u32, train_of_order: &mut [u8], times: &mut [u32]) -> Choice {
     // SAFETY: as in `choose_windows`.
     unsafe {

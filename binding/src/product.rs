@@ -3,7 +3,7 @@
 use crate::areas::{PairsArea, PlanAreas};
 use crate::calls::{name_in_timetable, name_in_windows, read_timetable, read_windows, Cause, NamePlace};
 use crate::exported::ExportedSheet;
-use native::plan::{Entry, Listing, Pair, Plan, Times};
+use native::plan::{times_in, Entry, Listing, Pair, Plan};
 use native::print::Implementation;
 use native::reader::Reading;
 use native::refusal::Refusal;
@@ -60,13 +60,13 @@ fn list(sheet: &Sheet) -> Result<Listing, Refusal> {
 
 fn choose(sheet: &Sheet, wish: u32) -> Result<Entry, Refusal> {
     let (n, q) = sheet.size();
-    let mut areas = PlanAreas::of_lengths(PlanAreas::least(n, q));
+    let lengths = PlanAreas::least(n, q);
+    let mut areas = PlanAreas::of_lengths(lengths);
     let choice = ExportedSheet::from(sheet).choose_in(wish, &mut areas);
     passed(choice.cause)?;
-    let times = |numbers: &[u32]| Times { departure: numbers[0], arrival: numbers[1] };
     let plan = Plan {
-        train_of_order: areas.train_of_order.first(n).to_vec(),
-        times: areas.times.first(2 * q).chunks(2).map(times).collect(),
+        train_of_order: areas.train_of_order.first(lengths[0]).to_vec(),
+        times: times_in(areas.times.first(lengths[1])),
     };
     Ok(Entry { pair: Pair { arrival: choice.last, lateness: choice.worst }, plan })
 }

@@ -1,5 +1,6 @@
 //! Whether an implementation agrees with the listing of every loading.
 
+use crate::booking::is_booked;
 use crate::listing::Seen;
 use crate::plan::Pair;
 use crate::planner::most_rounds;
@@ -24,11 +25,13 @@ fn lists_front(implementation: &Implementation, sheet: &Sheet, front: &[Pair]) -
     }
 }
 
-/// The chosen plan is a schedule with the chosen pair, and none in time has a smaller worst lateness; refused with 8 where there is no
-/// schedule, and with 11 where there is one but none in time.
+/// The chosen plan is a schedule with the chosen pair and with its departures' windows, and none in time has a smaller worst lateness; refused
+/// with 8 where there is no schedule, and with 11 where there is one but none in time.
 fn chooses_best(implementation: &Implementation, sheet: &Sheet, seen: &Seen, wish: u32) -> bool {
     match ((implementation.choose)(sheet, wish), seen.best_by(wish)) {
-        (Ok(chosen), Some(best)) => chosen.pair == best && pair_of(sheet, &chosen.plan) == Some(best),
+        (Ok(chosen), Some(best)) => {
+            chosen.pair == best && pair_of(sheet, &chosen.plan) == Some(best) && is_booked(sheet, &chosen.plan.times)
+        }
         (Err(refusal), None) => {
             let number = if seen.front().is_empty() { NO_SCHEDULE } else { WISH_TOO_EARLY };
             refusal == Refusal::of_all(number)

@@ -3,6 +3,7 @@
 
 pub mod admission;
 pub mod agreement;
+pub mod booking;
 pub mod cases;
 pub mod climb;
 pub mod damage;

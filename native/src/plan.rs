@@ -12,6 +12,22 @@ pub struct Pair {
 pub struct Times {
     pub departure: u32,
     pub arrival: u32,
+    /// The window, from 1, that contains the departure; 0 in the timetable form.
+    pub window: u32,
+}
+
+/// A train takes so many numbers of the area of times.
+pub const NUMBERS_A_TRAIN: usize = 3;
+
+/// What the area of times holds of these trains.
+pub fn time_numbers(times: &[Times]) -> Vec<u32> {
+    times.iter().flat_map(|train| [train.departure, train.arrival, train.window]).collect()
+}
+
+/// The trains of which an area of times holds these numbers.
+pub fn times_in(numbers: &[u32]) -> Vec<Times> {
+    let train = |&[departure, arrival, window]: &[u32; NUMBERS_A_TRAIN]| Times { departure, arrival, window };
+    numbers.as_chunks().0.iter().map(train).collect()
 }
 
 #[derive(Clone, Debug, PartialEq, Eq)]

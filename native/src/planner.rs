@@ -2,7 +2,7 @@
 
 use crate::admission::admit;
 use crate::limits::*;
-use crate::plan::{Entry, Listing, Pair, Plan, Times};
+use crate::plan::{time_numbers, times_in, Entry, Listing, Pair, Plan, NUMBERS_A_TRAIN};
 use crate::refusal::*;
 use crate::search::{search, Recorded};
 use crate::sheet::Sheet;
@@ -28,17 +28,18 @@ pub fn list_in(sheet: &Sheet, pairs: &mut [Pair]) -> Result<Counts, Refusal> {
     Ok(Counts { pairs: entries.len(), rounds })
 }
 
-/// Puts the chosen plan in the first elements of the lent areas, and gives its pair; nothing is written where the call refuses.
-pub fn choose_in(sheet: &Sheet, wish: u32, train_of_order: &mut [u8], times: &mut [Times]) -> Result<Pair, Refusal> {
+/// Puts the chosen plan in the first elements of the lent areas, and gives its pair; nothing is written where the call refuses. The area of
+/// times has three numbers a train: departure, arrival, window.
+pub fn choose_in(sheet: &Sheet, wish: u32, train_of_order: &mut [u8], times: &mut [u32]) -> Result<Pair, Refusal> {
     admit(sheet)?;
     let (n, q) = sheet.size();
-    if train_of_order.len() < n || times.len() < q {
+    if train_of_order.len() < n || times.len() < NUMBERS_A_TRAIN * q {
         return Err(Refusal::of_all(AREA_TOO_SHORT));
     }
     let recorded = search(sheet)?;
     let Entry { pair, plan } = recorded.chosen(wish)?;
     train_of_order[..n].copy_from_slice(&plan.train_of_order);
-    times[..q].copy_from_slice(&plan.times);
+    times[..NUMBERS_A_TRAIN * q].copy_from_slice(&time_numbers(&plan.times));
     Ok(*pair)
 }
 
@@ -54,9 +55,9 @@ pub fn list(sheet: &Sheet) -> Result<Listing, Refusal> {
 /// Chooses with areas of its own.
 pub fn choose(sheet: &Sheet, wish: u32) -> Result<Entry, Refusal> {
     let (n, q) = room(sheet);
-    let (mut train_of_order, mut times) = (vec![0; n], vec![Times::default(); q]);
+    let (mut train_of_order, mut times) = (vec![0; n], vec![0; NUMBERS_A_TRAIN * q]);
     let pair = choose_in(sheet, wish, &mut train_of_order, &mut times)?;
-    Ok(Entry { pair, plan: Plan { train_of_order, times } })
+    Ok(Entry { pair, plan: Plan { train_of_order, times: times_in(&times) } })
 }
 
 /// The orders and trains that areas have room for: a sheet beyond the limits is refused before the areas matter.

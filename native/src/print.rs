@@ -47,7 +47,7 @@ fn plan_lines(listing: &Listing, plan: &Plan, text: &[u8], names: &[Range<usize>
         writeln!(out, "P,{},{}", pair.arrival, pair.lateness).unwrap();
     }
     for (i, times) in plan.times.iter().enumerate() {
-        writeln!(out, "D,{},{},{}", i + 1, times.departure, times.arrival).unwrap();
+        writeln!(out, "D,{},{},{},{}", i + 1, times.departure, times.arrival, times.window).unwrap();
     }
     for (name, train) in names.iter().zip(&plan.train_of_order) {
         let name = std::str::from_utf8(&text[name.clone()]).expect("names are ASCII");

@@ -36,7 +36,7 @@ fn timed_in_windows(windows: &Windows, times: &[Times]) -> bool {
 
 fn timed_by_timetable(timetable: &Timetable, times: &[Times]) -> bool {
     let fixed = timetable.departure.iter().zip(&timetable.arrival);
-    fixed.map(|(&departure, &arrival)| Times { departure, arrival }).eq(times.iter().copied())
+    fixed.eq(times.iter().map(|train| (&train.departure, &train.arrival)))
 }
 
 fn every_train_full(capacity: &[u32], plan: &Plan) -> bool {

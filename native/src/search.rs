@@ -107,7 +107,7 @@ fn run_windows(windows: &Windows, greatest: &[u32], times: &mut [Times]) -> bool
         }
         let departure = wish.max(windows.from[window]);
         let arrival = (departure + windows.running[i]).max(earliest_arrival);
-        *slot = Times { departure, arrival };
+        *slot = Times { departure, arrival, window: window as u32 + 1 };
         earliest_departure = departure + windows.gap;
         earliest_arrival = arrival + windows.gap;
     }
@@ -119,7 +119,7 @@ fn run_timetable(timetable: &Timetable, greatest: &[u32], times: &mut [Times]) -
         if greatest[i] > timetable.departure[i] {
             return false;
         }
-        *slot = Times { departure: timetable.departure[i], arrival: timetable.arrival[i] };
+        *slot = Times { departure: timetable.departure[i], arrival: timetable.arrival[i], window: 0 };
     }
     true
 }

@@ -91,11 +91,11 @@ fn window_times(windows: &Windows, greatest: &[u32]) -> Option<Vec<Times>> {
     for (release, running) in greatest.iter().zip(&windows.running) {
         let ahead = times.last();
         let wish = ahead.map_or(*release, |ahead| (ahead.departure + windows.gap).max(*release));
-        let open = windows.from.iter().zip(&windows.to).filter(|(_, &to)| to >= wish);
-        let departure = open.map(|(&from, _)| from.max(wish)).min()?;
+        let open = (0..windows.from.len()).filter(|&at| windows.to[at] >= wish);
+        let (departure, window) = open.map(|at| (windows.from[at].max(wish), at as u32 + 1)).min()?;
         let alone = departure + running;
         let arrival = ahead.map_or(alone, |ahead| alone.max(ahead.arrival + windows.gap));
-        times.push(Times { departure, arrival });
+        times.push(Times { departure, arrival, window });
     }
     Some(times)
 }
@@ -105,7 +105,7 @@ fn fixed_times(timetable: &Timetable, greatest: &[u32]) -> Option<Vec<Times>> {
         return None;
     }
     let columns = timetable.departure.iter().zip(&timetable.arrival);
-    Some(columns.map(|(&departure, &arrival)| Times { departure, arrival }).collect())
+    Some(columns.map(|(&departure, &arrival)| Times { departure, arrival, window: 0 }).collect())
 }
 
 /// Step 3, where the worst lateness is below the limit.

@@ -2,9 +2,11 @@ use crate::chosen::check_choosing;
 use crate::listed::check_listing;
 use crate::spoil::spoil;
 use binding::areas::{PairsArea, PlanAreas};
+use binding::exported::ExportedSheet;
 use native::admission::admit;
 use native::draw::{big, drawn_size, small};
 use native::ladder::{ladder_timetable, ladder_windows, Ladder};
+use native::limits::MOST_TRAINS;
 use native::plan::Listing;
 use native::reader::read;
 use native::refusal::*;
@@ -52,6 +54,23 @@ fn guards_tell_what_was_written() {
     times.lent()[3] = 0;
     assert!(train_of_order.guarded_but(1) && !train_of_order.guarded_but(0));
     assert!(times.guarded_but(4) && !times.guarded_but(3));
+}
+
+/// Choosing asks for three numbers of times a train, in either form.
+#[test]
+fn three_numbers_a_train() {
+    let mut rng = Rng::new(107);
+    for q in 1..=MOST_TRAINS {
+        for form in FORMS {
+            let sheet = big(&mut rng, form, MOST_TRAINS as u32, q);
+            let too_short = |length| {
+                let mut areas = PlanAreas::of_lengths([MOST_TRAINS, length]);
+                let reply = ExportedSheet::from(&sheet).choose_in(u32::MAX, &mut areas);
+                reply.cause.number == AREA_TOO_SHORT && areas.times.guarded_but(0)
+            };
+            assert!(too_short(3 * q - 1) && !too_short(3 * q), "{sheet:?}");
+        }
+    }
 }
 
 #[test]

@@ -7,6 +7,7 @@ use Prim.Native.Nat.{ℕ, _≤_}
 use lib.IntN.{ℤ, pos}
 use Rattle.model.specs.Sheet.{Sheet}
 use Rattle.model.specs.Schedule.{Schedule}
+use Rattle.model.specs.Booking.{Booked}
 use Rattle.model.specs.Lateness.{Pair}
 use Rattle.model.specs.Admission.{Admitted}
 use Rattle.model.specs.declared.ListReply.{ListReply}
@@ -56,8 +57,11 @@ pair-given r = record { last = r .last; worst = r .worst }
 pub record ExportedChoice (s : Sheet) (wish : ℕ) (r : Choice) (left found : PlanAreas) : Type 0 where
   pub equal : r ≡ choiceOf (choice-reply (choose-to s wish found))
   pub call : ChoosingCall s wish (choice-reply (choose-to s wish found)) left found
-  -- of an accepted call: "A chosen plan is a schedule", "the last listed pair not later than it", "and none that arrives in time has a smaller worst lateness"
+  -- of an accepted call: "A chosen plan is a schedule"
   pub schedule : r .cause .number ≡ 0 → EntryPlan s (record { pair = pair-given r; plan = plan-in s left })
+  -- document 02, No. 2, "The window of each departure"
+  pub booked : r .cause .number ≡ 0 → Booked s (plan-in s left .departure) (plan-in s left .window)
+  -- "the last listed pair not later than it", "and none that arrives in time has a smaller worst lateness"
   pub listed : r .cause .number ≡ 0 → ChosenListed s wish (pair-given r)
   pub best : r .cause .number ≡ 0 → Best s wish (pair-given r)
   -- of a sheet that passes 4, 5, 2, 6, 7 and 10

@@ -63,6 +63,7 @@ module _ (s : Sheet) (wish : ℕ) (left found : PlanAreas) where
         equal = e ∙ ap choiceOf replied;
         call = subst (λ (y : ChoiceReply). ChoosingCall s wish y left found) replied call;
         schedule = λ u. rw e (call .schedule (pair-given (choiceOf x)) (gives x (rw cause at u)));
+        booked = λ u. call .booked (pair-given (choiceOf x)) (gives x (rw cause at u));
         listed = λ u. rw e (call .listed (pair-given (choiceOf x)) (gives x (rw cause at u)));
         best = λ u. rw e (call .best (pair-given (choiceOf x)) (gives x (rw cause at u)));
         eight = rw cause (call .eight);

@@ -5,7 +5,7 @@ use Rattle.model.specs.Sheet.{Sheet}
 use Rattle.rounds.specs.Recording.{Plan, Entry, last-entry}
 use Rattle.rounds.specs.Rounds.{recorded-in, search}
 use Rattle.rounds.specs.Answers.{Answer, refused, given, Listing}
-use Rattle.rounds.specs.Areas.{pair-numbers, time-numbers}
+use Rattle.rounds.specs.Areas.{pair-numbers, plan-times}
 use Rattle.fields.specs.declared.NamePlaces.{NamePlaces}
 use Rattle.layout.specs.Lines.{refusal-line}
 use Rattle.printer.specs.PlanBytes.{plan-bytes}
@@ -17,7 +17,7 @@ last-recorded s = last-entry (recorded-in (search s))
 module _ (text : List ℕ) (names : NamePlaces) (s : Sheet) where
   -- of a listing and a plan
   abbrev pub listing-bytes : Listing → Plan → List ℕ
-  listing-bytes l x = plan-bytes text names (pair-numbers (l .pairs)) (x .train) (time-numbers (x .departure) (x .arrival) (s .trains)) (l .rounds)
+  listing-bytes l x = plan-bytes text names (pair-numbers (l .pairs)) (x .train) (plan-times s x) (l .rounds)
 
   -- and of what the rounds answer
   abbrev pub answer-bytes : Answer Listing → List ℕ

@@ -18,11 +18,11 @@ use Rattle.model.specs.declared.ListReply.{ListReply}
 use Rattle.model.specs.declared.ListReply.the-variants.{Listed, Refused}
 use Rattle.rounds.specs.Recording.{Entry}
 use Rattle.rounds.specs.Answers.{Answer, refused, given, Listing, list, last-arrival-in}
-use Rattle.rounds.specs.Areas.{PlanAreas, ListRoom, list-reply, pair-numbers, time-numbers, plan-left}
-use Rattle.rounds.specs.AreaLaws.{pair-numbers-length, time-numbers-length}
-use Rattle.rounds.specs.EntryPlan.{EntryPlan}
+use Rattle.rounds.specs.Areas.{PlanAreas, ListRoom, list-reply, pair-numbers, plan-times, plan-left}
+use Rattle.rounds.specs.AreaLaws.{pair-numbers-length, plan-times-length}
+use Rattle.rounds.specs.EntryPlan.{EntryPlan, EntryBooked}
 use Rattle.rounds.specs.ChosenLaws.{chosen-so}
-use Rattle.rounds.specs.ChoosingLaws.{last-recorded-chosen}
+use Rattle.rounds.specs.ChoosingLaws.{booked-chosen, last-recorded-chosen}
 use Rattle.fields.specs.declared.NamePlaces.{NamePlaces}
 use Rattle.planner.specs.Listing.{ListingCall}
 use Rattle.planner.specs.ListingLaws.{list-of-rounds}
@@ -31,9 +31,12 @@ use Rattle.desk.specs.Printing.{PlanBytes, ListBytes, SheetBytes}
 use Rattle.desk.specs.ListedLaws.{HasListed, has-listed, last-answered}
 use Rattle.desk.specs.AnswerBytes.{last-recorded, answer-bytes}
 
--- the last recorded plan is a schedule
-pub last-planned : (s : Sheet) → Admitted s → {l : Listing} → list s ≡ given l → EntryPlan s (last-recorded s)
-last-planned s a {l} u = chosen-so s a (last-arrival-in (l .pairs)) (last-recorded-chosen s a u) .plan
+-- the last recorded plan is a schedule, and its windows are those of its departures
+pub last-planned : (s : Sheet) → Admitted s → {l : Listing} → list s ≡ given l → EntryPlan s (last-recorded s) × EntryBooked s (last-recorded s)
+last-planned s a {l} u =
+    let wish = last-arrival-in (l .pairs) in
+    let is = last-recorded-chosen s a u in
+    (chosen-so s a wish is .plan, booked-chosen s a wish is)
 
 -- ---- the fronts of the areas are what was written
 
@@ -44,7 +47,7 @@ front-pairs ps count left found many area =
 
 module _ (s : Sheet) (e : Entry) (own : EntryPlan s e) (left lent : PlanAreas) (is : left ≡ plan-left s (given e) lent) where
   abbrev times : List ℕ
-  times = time-numbers (e .plan .departure) (e .plan .arrival) (s .trains)
+  times = plan-times s (e .plan)
 
   front-trains : take (s .orders) (left .trains) ≡ e .plan .train
   unfolding plan-left
@@ -52,9 +55,7 @@ module _ (s : Sheet) (e : Entry) (own : EntryPlan s e) (left lent : PlanAreas) (
 
   front-times : take (numbers-a-train * s .trains) (left .times) ≡ times
   unfolding plan-left
-  front-times =
-      let many = time-numbers-length (e .plan .departure) (e .plan .arrival) (s .trains) in
-      rw is (take-at times (drop (length times) (lent .times)) (numbers-a-train * s .trains) many)
+  front-times = rw is (take-at times (drop (length times) (lent .times)) (numbers-a-train * s .trains) (plan-times-length s (e .plan)))
 
 -- ---- what is printed
 
@@ -69,7 +70,7 @@ module _ (text : List ℕ) (names : NamePlaces) (s : Sheet) where
         let answer = last-answered s count rounds pairs found h (p .lent) (p .trains-lent) (p .times-lent) in
         let left : p .left ≡ plan-left s (given (last-recorded s)) (p .lent) =
         p .call .equal .areas-left ∙ ap (λ (x : Answer Entry). plan-left s x (p .lent)) answer in
-        let own = last-planned s (h .admitted) (h .is) in
+        let own = last-planned s (h .admitted) (h .is) .0 in
         p .printed
         ∙ rw (
           front-pairs (h .listing .pairs) count pairs found (h .many) (h .area),

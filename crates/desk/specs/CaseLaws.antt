@@ -1,4 +1,4 @@
--- The definitions give the bytes that document 01 prints for case a: they are computed. Assumes nothing.
+-- The definitions give the bytes that document 01, with document 02's windows, prints for case a: they are computed. Assumes nothing.
 use mathlib.Core.Path.{_≡_, refl}
 use mathlib.Core.List.{[], _∷_}
 use lib.IntN.{pos}
@@ -18,8 +18,9 @@ use Rattle.layout.specs.Lines.{pair-line, time-line, order-line, rounds-line, p
 use Rattle.printer.specs.PlanBytes.{plan-bytes}
 
 pub case-a-printed :
-    plan-bytes text-a (reading Windows text-a .names) (pos 110 ∷ pos 150 ∷ pos 130 ∷ pos 70 ∷ []) (2 ∷ 1 ∷ 2 ∷ []) (40 ∷ 70 ∷ 100 ∷ 130 ∷ []) 2
-    ≡ bytes "P,110,150\nP,130,70\nD,1,40,70\nD,2,100,130\nL,A,2\nL,B,1\nL,C,2\nR,2\n"
+    plan-bytes text-a (reading Windows text-a .names) (pos 110 ∷ pos 150 ∷ pos 130 ∷ pos 70 ∷ []) (2 ∷ 1 ∷ 2 ∷ []) (40 ∷ 70 ∷ 1 ∷ 100 ∷ 130 ∷ 1 ∷ [])
+    2
+    ≡ bytes "P,110,150\nP,130,70\nD,1,40,70,1\nD,2,100,130,1\nL,A,2\nL,B,1\nL,C,2\nR,2\n"
 unfolding plan-bytes pair-lines time-lines order-lines pair-line time-line order-line rounds-line name-of nameAt within signed decimal digits reading
     text-a bytes numberField numberAt runOf decimalOf nameField numberCount recordOf numbersFrom numberFields noLines refused
 case-a-printed = refl

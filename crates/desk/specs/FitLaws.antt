@@ -17,8 +17,8 @@ use Rattle.model.specs.declared.Refusal.the-variants.{NoSchedule}
 use Rattle.model.specs.declared.Admission.{Admission}
 use Rattle.model.specs.declared.Admission.the-variants as tests
 use Rattle.rounds.specs.Answers.{Answer, given, Listing, list}
-use Rattle.rounds.specs.Areas.{pair-numbers, time-numbers}
-use Rattle.rounds.specs.AreaLaws.{pair-numbers-length, time-numbers-length}
+use Rattle.rounds.specs.Areas.{pair-numbers, time-numbers, plan-times}
+use Rattle.rounds.specs.AreaLaws.{pair-numbers-length, plan-times-length}
 use Rattle.rounds.specs.AnswerLaws.{Answered, no-schedule, listing, answered}
 use Rattle.rounds.specs.ScheduleLaws.{SmallPair}
 use Rattle.rounds.specs.SizeLaws.{list-sizes, plan-sizes}
@@ -51,19 +51,23 @@ both-small [] behind top h g k l = g k l
 both-small (x ∷ ahead) behind top h g zero l = h 0 (omega arith)
 both-small (x ∷ ahead) behind top h g (suc k) l = both-small ahead behind top (λ m u. h (suc m) (omega arith)) g k (omega arith)
 
-time-numbers-small : (departure arrival : List ℕ) (q : ℕ)
-    → ((i : ℕ) → 1 ≤ i → i ≤ q → (nth departure i < 1000000000) × (nth arrival i < 1000000000))
-    → (k : ℕ) → k < length (time-numbers departure arrival q) → at (time-numbers departure arrival q) k < 1000000000
+time-numbers-small : (departure arrival window : List ℕ) (q : ℕ)
+    → ((i : ℕ) → 1 ≤ i → i ≤ q → (nth departure i < 1000000000) × (nth arrival i < 1000000000) × (nth window i < 1000000000))
+    → (k : ℕ) → k < length (time-numbers departure arrival window q) → at (time-numbers departure arrival window q) k < 1000000000
 unfolding time-numbers
-time-numbers-small departure arrival zero h k l = absurd (omega arith)
-time-numbers-small departure arrival (suc q) h k l =
-    both-small (time-numbers departure arrival q) (nth departure (suc q) ∷ nth arrival (suc q) ∷ []) 1000000000
-    (time-numbers-small departure arrival q (λ i u v. h i u (omega arith))) two k l
+time-numbers-small departure arrival window zero h k l = absurd (omega arith)
+time-numbers-small departure arrival window (suc q) h k l =
+    both-small (time-numbers departure arrival window q) last 1000000000
+    (time-numbers-small departure arrival window q (λ i u v. h i u (omega arith))) three k l
   where
-    two : (k : ℕ) → k < 2 → at (nth departure (suc q) ∷ nth arrival (suc q) ∷ []) k < 1000000000
-    two zero u = h (suc q) (omega arith) (omega arith) .0
-    two (suc zero) u = h (suc q) (omega arith) (omega arith) .1
-    two (suc (suc k)) u = absurd (omega arith)
+    last : List ℕ
+    last = nth departure (suc q) ∷ nth arrival (suc q) ∷ nth window (suc q) ∷ []
+
+    three : (k : ℕ) → k < 3 → at last k < 1000000000
+    three zero u = h (suc q) (omega arith) (omega arith) .0
+    three (suc zero) u = h (suc q) (omega arith) (omega arith) .1
+    three (suc (suc zero)) u = h (suc q) (omega arith) (omega arith) .2
+    three (suc (suc (suc k))) u = absurd (omega arith)
 
 -- ---- a sheet
 
@@ -72,18 +76,22 @@ module _ (text : List ℕ) (names : NamePlaces) (named : NamesLie text names) (s
   listing-short l u =
       let x = last-recorded s .plan in
       let z = list-sizes s a u in
-      let y = plan-sizes s a (last-recorded s) (last-planned s a u) in
-      let times = time-numbers (x .departure) (x .arrival) (s .trains) in
+      let (own, booked) = last-planned s a u in
+      let y = plan-sizes s a (last-recorded s) own booked in
       let many = pair-numbers-length (l .pairs) in
-      let long = time-numbers-length (x .departure) (x .arrival) (s .trains) in
-      plan-short text names (pair-numbers (l .pairs)) (x .train) times (l .rounds) named
+      let long = plan-times-length s x in
+      plan-short text names (pair-numbers (l .pairs)) (x .train) (plan-times s x) (l .rounds) named
       (omega (arith, z .few-pairs)) (omega (arith, y .placed, a .few .orders)) (omega (arith, a .few .trains))
       (record {
         pairs-small = pair-numbers-small (l .pairs) (z .pairs-small);
         trains-small = λ k l. omega (arith, y .trains-small k (omega (arith, y .placed)));
         times-small =
-            time-numbers-small (x .departure) (x .arrival) (s .trains)
-            (λ i u v. (omega (arith, y .departures-small i u v), omega (arith, y .arrivals-small i u v)));
+            time-numbers-small (x .departure) (x .arrival) (x .window) (s .trains)
+            (λ i u v. (
+              omega (arith, y .departures-small i u v),
+              omega (arith, y .arrivals-small i u v),
+              omega (arith, y .windows-small i u v),
+            ));
         rounds-small = omega (arith, z .few-rounds);
       })
 

@@ -17,18 +17,18 @@ use Rattle.model.specs.Admission.{Admitted}
 use Rattle.model.specs.declared.Refusal.the-variants.{NoSchedule, RoundLimit, WishTooEarly}
 use Rattle.rounds.specs.Timing.{stopped, timed}
 use Rattle.rounds.specs.Recording.{Entry, entry-at, last-entry, recorded-arrival}
-use Rattle.rounds.specs.EntryPlan.{EntryPlan}
+use Rattle.rounds.specs.EntryPlan.{EntryPlan, EntryBooked}
 use Rattle.rounds.specs.ChosenPair.{LastInTime, Best, TooEarly}
 use Rattle.rounds.specs.Rounds.{going, ended, recorded-in, start, loading, times, first-timing, rounds, search}
 use Rattle.rounds.specs.RoundsBound.{rounds-bound}
 use Rattle.rounds.specs.Answers.{refused, given, Listing, list, last-arrival-in, choose}
 use Rattle.rounds.specs.SumLaws.{within-limit}
 use Rattle.rounds.specs.PairListLaws.{apart}
-use Rattle.rounds.specs.InvariantLaws.{entry-plans, reached, earliest-plan}
+use Rattle.rounds.specs.InvariantLaws.{entry-plans, entry-booked, reached, earliest-plan}
 use Rattle.rounds.specs.ArrivalLaws as arrivals
 use Rattle.rounds.specs.AnswerLaws.{listed-so, eight-means, eight-given, eight-stops, nine-never, ends-within}
 use Rattle.rounds.specs.ChosenLaws.{choice-best, chosen-so, eleven-chosen, eleven-before-first, nine-never-chosen}
-use Rattle.rounds.specs.ChoosingLaws.{eight-chosen, eight-chosen-stops, listed-chosen, last-recorded-chosen}
+use Rattle.rounds.specs.ChoosingLaws.{booked-chosen, eight-chosen, eight-chosen-stops, listed-chosen, last-recorded-chosen}
 
 -- ---- demand 3: the listed pairs
 
@@ -65,6 +65,11 @@ pub recorded-plans : (s : Sheet) → Admitted s → (k m : ℕ) → m < length (
     → EntryPlan s (entry-at (recorded-in (rounds s k (start s))) m)
 recorded-plans s a k = entry-plans s a k
 
+-- document 02, No. 2: and its windows are those of its departures
+pub recorded-booked : (s : Sheet) → Admitted s → (k m : ℕ) → m < length (recorded-in (rounds s k (start s)))
+    → EntryBooked s (entry-at (recorded-in (rounds s k (start s))) m)
+recorded-booked s a k = entry-booked s a k
+
 -- the arrival of the pair recorded last never falls from round to round
 pub arrivals-never-fall : (s : Sheet) → Admitted s → (k : ℕ)
     → recorded-arrival (recorded-in (rounds s k (start s))) ≤ recorded-arrival (recorded-in (rounds s (k + 1) (start s)))
@@ -75,6 +80,10 @@ arrivals-never-fall s a k = arrivals.arrivals-never-fall s a k
 -- "A chosen plan is a schedule", and the pair chosen is its own
 pub chosen-plan : (s : Sheet) → Admitted s → (wish : ℕ) {e : Entry} → choose s wish ≡ given e → EntryPlan s e
 chosen-plan s a wish u = chosen-so s a wish u .plan
+
+-- document 02, No. 2, "The window of each departure": of a chosen plan too
+pub chosen-booked : (s : Sheet) → Admitted s → (wish : ℕ) {e : Entry} → choose s wish ≡ given e → EntryBooked s e
+chosen-booked s a wish u = booked-chosen s a wish u
 
 -- "the last listed pair not later than it"
 pub record ChosenListed (s : Sheet) (wish : ℕ) (p : Pair) : Type 0 where
@@ -146,7 +155,7 @@ module _ (s : Sheet) (a : Admitted s) (k c : ℕ) (latest : List ℕ) (y : ℤ) 
   keeps = reached s a k c latest y recorded now .keeps
 
   -- the plan of the next round departs and arrives, train by train, no later than any schedule that keeps to the latest trains
-  pub earliest : (S F : List ℕ) → times s (loading s latest) ≡ timed S F
+  pub earliest : (S F W : List ℕ) → times s (loading s latest) ≡ timed S F W
       → (train departure : List ℕ) → Schedule s train departure → ((j : ℕ) → j < s .orders → at train j ≤ at latest j)
       → (i : ℕ) → 1 ≤ i → i ≤ s .trains → (nth S i ≤ nth departure i) × (nth F i ≤ arrival (s .paths) (nth departure) i)
   earliest = earliest-plan s a k c latest y recorded (reached s a k c latest y recorded now)

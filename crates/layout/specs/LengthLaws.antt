@@ -9,6 +9,7 @@ use lib.Dec.{ltb}
 use lib.IntN.{ℤ, pos, negsuc, natAbs}
 use lib.ListN.{length, getD, length-append, length-take}
 use borrow.Author.Tests.{ltb-true, ltb-false}
+use Rattle.model.specs.Limits.{numbers-a-train}
 use Rattle.model.specs.Refusal.{number, returned}
 use Rattle.model.specs.declared.Refusal.{Refusal}
 use Rattle.model.specs.declared.Refusal.the-variants.{Malformed, OutOfRange, KindTooEarly, TooMany, KindMissing, OutOfOrder, PlacesDiffer, NoSchedule}
@@ -58,10 +59,11 @@ pub pair-line-short : (last worst : ℤ) → natAbs last < 1000000000 → natAbs
 unfolding pair-line
 pair-line-short last worst l w = simp length-append (omega (arith, signed-short last l, signed-short worst w))
 
-pub time-line-short : (train departure arrival : ℕ) → train < 1000000000 → departure < 1000000000 → arrival < 1000000000
-    → length (time-line train departure arrival) ≤ 32
+pub time-line-short : (train departure arrival window : ℕ) → train < 1000000000 → departure < 1000000000 → arrival < 1000000000 → window < 1000000000
+    → length (time-line train departure arrival window) ≤ 42
 unfolding time-line
-time-line-short train departure arrival t d a = simp length-append (omega (arith, nine-digits train t, nine-digits departure d, nine-digits arrival a))
+time-line-short train departure arrival window t d a w =
+    simp length-append (omega (arith, nine-digits train t, nine-digits departure d, nine-digits arrival a, nine-digits window w))
 
 pub order-line-short : (name : List ℕ) (train : ℕ) → length name ≤ 12 → train < 1000000000 → length (order-line name train) ≤ 25
 unfolding order-line
@@ -101,15 +103,18 @@ pair-lines-short pairs (suc m) h =
       pair-line-short (getD pairs (2 * m) (pos 0)) (getD pairs (2 * m + 1) (pos 0)) (h (2 * m) (omega arith)) (h (2 * m + 1) (omega arith)),
     )
 
-pub time-lines-short : (times : List ℕ) (m : ℕ) → m < 1000000000 → ((k : ℕ) → k < 2 * m → getD times k 0 < 1000000000) → length (time-lines times m) ≤ 32 * m
+pub time-lines-short : (times : List ℕ) (m : ℕ) → m < 1000000000 → ((k : ℕ) → k < numbers-a-train * m → getD times k 0 < 1000000000)
+    → length (time-lines times m) ≤ 42 * m
 unfolding time-lines
 time-lines-short times zero few h = omega arith
 time-lines-short times (suc m) few h =
+    let a = numbers-a-train * m in
     omega (
       arith,
-      length-append (time-lines times m) (time-line (suc m) (getD times (2 * m) 0) (getD times (2 * m + 1) 0)),
+      length-append (time-lines times m) (time-line (suc m) (getD times a 0) (getD times (a + 1) 0) (getD times (a + 2) 0)),
       time-lines-short times m (omega arith) (λ k l. h k (omega arith)),
-      time-line-short (suc m) (getD times (2 * m) 0) (getD times (2 * m + 1) 0) few (h (2 * m) (omega arith)) (h (2 * m + 1) (omega arith)),
+      time-line-short (suc m) (getD times a 0) (getD times (a + 1) 0) (getD times (a + 2) 0) few
+          (h a (omega arith)) (h (a + 1) (omega arith)) (h (a + 2) (omega arith)),
     )
 
 pub order-lines-short : (name : ℕ → List ℕ) (trains : List ℕ) (m : ℕ) → ((j : ℕ) → length (name j) ≤ 12) → ((k : ℕ) → k < m → getD trains k 0 < 1000000000)

@@ -5,6 +5,7 @@ use Prim.Native.Nat.{ℕ, _+_, _*_}
 use native.Mathlib.Numerals.{add-one}
 use lib.IntN.{ℤ, pos}
 use lib.ListN.{getD}
+use Rattle.model.specs.Limits.{numbers-a-train}
 use Rattle.layout.specs.Lines.{pair-line, time-line, order-line, pair-lines, time-lines, order-lines}
 
 pub pair-next : (pairs : List ℤ) (i : ℕ) →
@@ -13,7 +14,9 @@ unfolding pair-lines
 pair-next pairs i = rw (add-one i)
 
 pub time-next : (times : List ℕ) (i : ℕ) →
-    time-lines times (i + 1) ≡ time-lines times i ++ time-line (i + 1) (getD times (2 * i) 0) (getD times (2 * i + 1) 0)
+    time-lines times (i + 1)
+    ≡ time-lines times i
+    ++ time-line (i + 1) (getD times (numbers-a-train * i) 0) (getD times (numbers-a-train * i + 1) 0) (getD times (numbers-a-train * i + 2) 0)
 unfolding time-lines
 time-next times i = rw (add-one i)
 

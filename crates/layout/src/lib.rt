@@ -1,7 +1,8 @@
-// Document 01, "The printed plan": its lines, as bytes in a lent buffer. The bytes are defined in specs/Lines.antt.
+// Document 01, "The printed plan", and document 02, No. 2: the lines, as bytes in a lent buffer. The bytes are defined in specs/Lines.antt.
 use fields::NamePlaces;
 use fields::name::name_part;
 use model::Refusal;
+use model::limits::NUMBERS_A_TRAIN;
 use writing::Place;
 use writing::name_field;
 use writing::number_field;
@@ -10,6 +11,7 @@ use writing::signed_field;
 ghost use mathlib.Core.Path.{_≡_};
 ghost use Prim.Native.Nat.{_/_};
 ghost use lib.ListN.{length};
+ghost use Rattle.model.specs.Limits.{numbers-a-train};
 ghost use Rattle.layout.specs.Lines.{pair-line, time-line, order-line, rounds-line, refusal-line, pair-lines, time-lines, name-of, order-lines};
 ghost use Rattle.writing.specs.Writing.{state, pass};
 
@@ -46,29 +48,32 @@ fn time_line(
     train: usize,
     departure: u32,
     arrival: u32,
+    window: u32,
 ) -> Place
-    ensures { λ r. ⌜ state r (now (out .exit)) ≡ pass writing (time-line train departure arrival) (state place (now (out .entry))) ⌝ }
+    ensures { λ r. ⌜ state r (now (out .exit)) ≡ pass writing (time-line train departure arrival window) (state place (now (out .entry))) ⌝ }
 {
     let kind = put(out, place, writing, 68);
     let first = number_field(out, kind, writing, train as u64);
     let second = number_field(out, first, writing, departure as u64);
     let third = number_field(out, second, writing, arrival as u64);
-    put(out, third, writing, 10)
+    let fourth = number_field(out, third, writing, window as u64);
+    put(out, fourth, writing, 10)
 }
 
 // The D lines.
 pub fn time_lines(out: &mut [u8], place: Place, writing: bool, times: &[u32]) -> Place
     ensures { λ r. ⌜ state r (now (out .exit)) ≡
-        pass writing (time-lines (now (times .entry)) (length (now (times .entry)) / 2)) (state place (now (out .entry))) ⌝ }
+        pass writing (time-lines (now (times .entry)) (length (now (times .entry)) / numbers-a-train)) (state place (now (out .entry))) ⌝ }
 {
-    let count = times.len() / 2;
+    let count = times.len() / NUMBERS_A_TRAIN;
     let mut behind = place;
     let mut i: usize = 0;
     while i < count {
-        let a = 2 * i;
+        let a = NUMBERS_A_TRAIN * i;
         let b = a + 1;
+        let c = a + 2;
         let train = i + 1;
-        behind = time_line(out, behind, writing, train, times[a], times[b]);
+        behind = time_line(out, behind, writing, train, times[a], times[b], times[c]);
         i = train;
     }
     behind

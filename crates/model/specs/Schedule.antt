@@ -8,12 +8,16 @@ use lib.ListN.{length}
 use Rattle.numbers.specs.Counting.{at, nth, count}
 use Rattle.model.specs.Sheet.{Windows, Timetable, Paths, windows, timetable, Sheet}
 
--- instant t lies in a window, both ends included
+-- instant t lies in window m, both ends included
+pub record Within (w : Windows) (m t : ℕ) : Type 0 where
+  pub numbered : (1 ≤ m) × (m ≤ w .count)
+  pub begun : w .from m ≤ t
+  pub not-over : t ≤ w .to m
+
+-- instant t lies in a window
 pub record Open (w : Windows) (t : ℕ) : Type 0 where
   pub window : ℕ
-  pub numbered : (1 ≤ window) × (window ≤ w .count)
-  pub begun : w .from window ≤ t
-  pub not-over : t ≤ w .to window
+  pub within : Within w window t
 
 -- the departures S_1 .. S_q that the window form allows
 pub record InWindows (w : Windows) (q : ℕ) (S : ℕ → ℕ) : Type 0 where

@@ -31,15 +31,15 @@ pub const MOST_TRAINS: usize = 32;
 
 pub const MOST_ORDERS: usize = 200;
 
-// A pair takes two numbers of its area, and a train two of the area of times.
+// A pair takes two numbers of its area, and a train three of the area of times.
 pub const NUMBERS_A_PAIR: usize = 2;
 
-pub const NUMBERS_A_TRAIN: usize = 2;
+pub const NUMBERS_A_TRAIN: usize = 3;
 
 // The areas that are long enough for every sheet.
 pub const MOST_PAIR_NUMBERS: usize = 12800;
 
-pub const MOST_TIME_NUMBERS: usize = 64;
+pub const MOST_TIME_NUMBERS: usize = 96;
 
 // A page that is long enough for whatever is printed of a text.
 pub const MOST_PRINTED: usize = 163840;

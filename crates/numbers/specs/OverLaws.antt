@@ -28,6 +28,13 @@ store-two-behind written found n v w e h =
     let l : length (written ++ (v ∷ [])) ≡ n + 1 = simp length-append (omega arith) in
     rw a (store-behind (written ++ (v ∷ [])) found (n + 1) w l h ∙ ap (λ f. over f found) (append-assoc written (v ∷ []) (w ∷ [])))
 
+pub store-three-behind : {A : Type 0} (written found : List A) (n : ℕ) (v w x : A) → length written ≡ n → n + 1 + 1 < length found
+    → set (set (set (over written found) n v) (n + 1) w) (n + 1 + 1) x ≡ over (written ++ (v ∷ w ∷ x ∷ [])) found
+store-three-behind written found n v w x e h =
+    let a = store-two-behind written found n v w e (omega arith) in
+    let l : length (written ++ (v ∷ w ∷ [])) ≡ n + 1 + 1 = simp length-append (omega arith) in
+    rw a (store-behind (written ++ (v ∷ w ∷ [])) found (n + 1 + 1) x l h ∙ ap (λ f. over f found) (append-assoc written (v ∷ w ∷ []) (x ∷ [])))
+
 -- ---- stores over the last two of the front
 
 set-two : {A : Type 0} (written rest : List A) (a b v w : A)

@@ -1,7 +1,7 @@
 -- The choice that is held, over the rounds of a call. Assumes nothing.
 use mathlib.Core.Path.{_≡_, refl, sym, ap, _∙_, subst}
 use mathlib.Core.Logic.{_⊎_, inl, inr}
-use mathlib.Core.Bool.{Bool, true, false, not, _&&_}
+use mathlib.Core.Bool.{Bool, true, false, _&&_}
 use mathlib.Core.List.{List, []}
 use Prim.Native.Nat.{ℕ, _≤_, _<_}
 use native.Mathlib.Omega.{arith}
@@ -20,7 +20,7 @@ use Rattle.rounds.specs.EntryPlan.{EntryPlan}
 use Rattle.rounds.specs.Rounds.{start, rounds}
 use Rattle.rounds.specs.InvariantLaws.{entry-plans}
 use Rattle.rounds.specs.Answers.{Answer, chosen, choose}
-use Rattle.rounds.specs.Areas.{PlanAreas, time-numbers}
+use Rattle.rounds.specs.Areas.{PlanAreas, plan-times}
 use Rattle.rounds.specs.ChoosingLaws.{choice-settled, choice-at-end}
 use Rattle.rounds.specs.Told.{areas, ChoiceTold}
 use Rattle.search.specs.Shows.{shown-entry, recorded-by}
@@ -68,7 +68,7 @@ module _ (s : Sheet) (a : Admitted s) (wish : ℕ) where
     -- a better plan in time, once it is written
     pub choice-taken : recorded-now s r ≡ record-entry (recorded-now s p) (shown-entry s r) → r .last ≤ wish → (trains times : List ℕ)
         → trains ≡ over (shown-entry s r .plan .train) (left .trains)
-        → times ≡ over (time-numbers (shown-entry s r .plan .departure) (shown-entry s r .plan .arrival) (s .trains)) (left .times)
+        → times ≡ over (plan-times s (shown-entry s r .plan)) (left .times)
         → Holds s wish (Chosen (r .last) (r .limit)) (areas trains times) found (r .last) (recorded-now s r)
     choice-taken is timely trains times trains-are times-are =
         rw is

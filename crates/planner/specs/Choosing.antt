@@ -5,6 +5,7 @@ use mathlib.Core.List.{List}
 use Prim.Native.Nat.{ℕ, _≤_}
 use Rattle.model.specs.Sheet.{Sheet}
 use Rattle.model.specs.Schedule.{Schedule}
+use Rattle.model.specs.Booking.{Booked}
 use Rattle.model.specs.Lateness.{Pair}
 use Rattle.model.specs.Refusal.{of-choice, numberOf, returnedOf}
 use Rattle.model.specs.Admission.{Admitted}
@@ -26,6 +27,8 @@ pub record ChoosingCall (s : Sheet) (wish : ℕ) (r : ChoiceReply) (left found :
   pub equal : ChoiceTold s (choose-to s wish found) r left found
   -- "A chosen plan is a schedule": the areas hold it, with the model's own arrivals, and the pair given is that schedule's own
   pub schedule : (p : Pair) → Gives r p → EntryPlan s (record { pair = p; plan = plan-in s left })
+  -- document 02, No. 2, "The window of each departure": train i departs within the window of its number, and within no other; of a timetable it is 0
+  pub booked : (p : Pair) → Gives r p → Booked s (plan-in s left .departure) (plan-in s left .window)
   -- "the last listed pair not later than it"
   pub listed : (p : Pair) → Gives r p → ChosenListed s wish p
   -- "and none that arrives in time has a smaller worst lateness"

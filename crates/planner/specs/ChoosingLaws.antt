@@ -10,6 +10,7 @@ use lib.ListN.{length}
 use Rattle.numbers.specs.DecidesLaws.{test-true}
 use Rattle.model.specs.Sheet.{Sheet}
 use Rattle.model.specs.Schedule.{Schedule}
+use Rattle.model.specs.Booking.{Booked}
 use Rattle.model.specs.Lateness.{Pair}
 use Rattle.model.specs.Refusal.{of-choice, numberOf}
 use Rattle.model.specs.Admission.{Admitted}
@@ -27,7 +28,7 @@ use Rattle.rounds.specs.Areas.{PlanAreas, PlanRoom, plan-room, tested, choose-t
 use Rattle.rounds.specs.AreaLaws.{decides-plan-room, choice-returns, plan-as-found}
 use Rattle.rounds.specs.ChoiceLaws.{Chose, no-schedule, too-early, choice, chose}
 use Rattle.rounds.specs.Told.{ChoiceTold}
-use Rattle.front.specs.Front.{chosen-plan, chosen-listed, chosen-best, no-schedule-chosen, wish-too-early}
+use Rattle.front.specs.Front.{chosen-plan, chosen-booked, chosen-listed, chosen-best, no-schedule-chosen, wish-too-early}
 use Rattle.planner.specs.InAreas.{plan-in}
 use Rattle.planner.specs.InAreasLaws.{plan-read}
 use Rattle.planner.specs.CallLaws.{passed, passes, answer-granted, accepted, told-first, told-then}
@@ -117,7 +118,7 @@ module _ (s : Sheet) (wish : ℕ) (r : ChoiceReply) (left found : PlanAreas) (to
             entry = e;
             is = is;
             pair = same-pair last worst;
-            plan = rw here (plan-read s e found (chosen-plan s a wish is));
+            plan = rw here (plan-read s e found (chosen-plan s a wish is) (chosen-booked s a wish is));
           }
 
   schedule : (p : Pair) → Gives r p → EntryPlan s (record { pair = p; plan = plan-in s left })
@@ -127,12 +128,18 @@ module _ (s : Sheet) (wish : ℕ) (r : ChoiceReply) (left found : PlanAreas) (to
       subst (λ (x : Plan). EntryPlan s (record { pair = p; plan = x })) (sym (c .plan))
       (subst (λ (y : Pair). EntryPlan s (record { pair = y; plan = c .entry .plan })) (c .pair) own)
 
+  booked : (p : Pair) → Gives r p → Booked s (plan-in s left .departure) (plan-in s left .window)
+  booked p g =
+      let c = accepts p g in
+      subst (λ (x : Plan). Booked s (x .departure) (x .window)) (sym (c .plan)) (chosen-booked s (c .admitted) wish (c .is))
+
   -- THE WHOLE CONTRACT FOLLOWS FROM THE EQUALITY
   pub choosing-call : ChoosingCall s wish r left found
   choosing-call =
       record {
         equal = told;
         schedule = schedule;
+        booked = booked;
         listed = λ p g. let c = accepts p g in rw (← (c .pair)) (chosen-listed s (c .admitted) wish (c .is));
         best = λ p g. let c = accepts p g in rw (← (c .pair)) (chosen-best s (c .admitted) wish (c .is));
         eight = λ a room. rw (told .replied, choice-of-rounds s wish found a room) (eight-chosen s a wish);

@@ -19,7 +19,7 @@ unfoldable pub pairs-in : (count : ℕ) → List ℤ → List Pair
 unfolding table
 pairs-in count left = table (pair-in left) count
 
--- "n trains; q departures with arrivals"
+-- "n trains; q departures with arrivals", and the windows
 unfoldable pub plan-in : Sheet → PlanAreas → Plan
 unfolding table
 plan-in s left =
@@ -27,4 +27,5 @@ plan-in s left =
       train = take (s .orders) (left .trains);
       departure = table (λ m. at (left .times) (numbers-a-train * m)) (s .trains);
       arrival = table (λ m. at (left .times) (numbers-a-train * m + 1)) (s .trains);
+      window = table (λ m. at (left .times) (numbers-a-train * m + 2)) (s .trains);
     }

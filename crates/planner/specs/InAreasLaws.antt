@@ -15,10 +15,10 @@ use Rattle.model.specs.Sheet.{Sheet}
 use Rattle.model.specs.Limits.{numbers-a-pair, numbers-a-train}
 use Rattle.model.specs.Lateness.{Pair, pair-at}
 use Rattle.rounds.specs.Recording.{Plan, Entry, no-pair}
-use Rattle.rounds.specs.EntryPlan.{EntryPlan}
+use Rattle.rounds.specs.EntryPlan.{EntryPlan, EntryBooked}
 use Rattle.rounds.specs.Answers.{given}
-use Rattle.rounds.specs.Areas.{PlanAreas, pair-numbers, time-numbers, plan-left}
-use Rattle.rounds.specs.AreaLaws.{pair-numbers-length, time-numbers-length}
+use Rattle.rounds.specs.Areas.{PlanAreas, pair-numbers, time-numbers, plan-times, plan-left}
+use Rattle.rounds.specs.AreaLaws.{pair-numbers-length, time-numbers-length, plan-times-length}
 use Rattle.planner.specs.InAreas.{pair-in, pairs-in, plan-in}
 
 -- ---- the numbers of a pair, and of a train
@@ -37,32 +37,42 @@ pair-found (p ∷ ps) (suc k) l =
     let h = pair-found ps k (omega arith) in
     record { last-at = rw e (h .last-at); worst-at = rw f (h .worst-at) }
 
-module _ (departure arrival : List ℕ) where
+module _ (departure arrival window : List ℕ) where
+  abbrev numbers : ℕ → List ℕ
+  numbers q = time-numbers departure arrival window q
+
   record TimesAt (q m : ℕ) : Type 0 where
-    departure-at : at (time-numbers departure arrival q) (numbers-a-train * m) ≡ nth departure (suc m)
-    arrival-at : at (time-numbers departure arrival q) (numbers-a-train * m + 1) ≡ nth arrival (suc m)
+    departure-at : at (numbers q) (numbers-a-train * m) ≡ nth departure (suc m)
+    arrival-at : at (numbers q) (numbers-a-train * m + 1) ≡ nth arrival (suc m)
+    window-at : at (numbers q) (numbers-a-train * m + 2) ≡ nth window (suc m)
 
   times-found : (q m : ℕ) → m < q → TimesAt q m
   unfolding time-numbers
   times-found zero m l = absurd (omega arith)
   times-found (suc q) m l = extend {P = TimesAt (suc q)} q (λ k u. older k u (times-found q k u)) newest m l
     where
-      long : length (time-numbers departure arrival q) ≡ numbers-a-train * q
-      long = time-numbers-length departure arrival q
+      long : length (numbers q) ≡ numbers-a-train * q
+      long = time-numbers-length departure arrival window q
+
+      last : List ℕ
+      last = nth departure (suc q) ∷ nth arrival (suc q) ∷ nth window (suc q) ∷ []
 
       older : (k : ℕ) → k < q → TimesAt q k → TimesAt (suc q) k
       older k u h =
-          let before = List·getD-append (time-numbers departure arrival q) (nth departure (suc q) ∷ nth arrival (suc q) ∷ []) 0 in
+          let before = List·getD-append (numbers q) last 0 in
           record {
             departure-at = before (numbers-a-train * k) (omega (arith, long)) ∙ h .departure-at;
             arrival-at = before (numbers-a-train * k + 1) (omega (arith, long)) ∙ h .arrival-at;
+            window-at = before (numbers-a-train * k + 2) (omega (arith, long)) ∙ h .window-at;
           }
 
       newest : TimesAt (suc q) q
       newest =
+          let behind = getD-append-add (numbers q) last in
           record {
-            departure-at = getD-at (time-numbers departure arrival q) (nth departure (suc q)) (nth arrival (suc q) ∷ []) 0 (numbers-a-train * q) long;
-            arrival-at = rw (sym long) (getD-append-add (time-numbers departure arrival q) (nth departure (suc q) ∷ nth arrival (suc q) ∷ []) 1 0);
+            departure-at = getD-at (numbers q) (nth departure (suc q)) (nth arrival (suc q) ∷ nth window (suc q) ∷ []) 0 (numbers-a-train * q) long;
+            arrival-at = rw (sym long) (behind 1 0);
+            window-at = rw (sym long) (behind 2 0);
           }
 
 -- ---- the areas
@@ -88,8 +98,8 @@ module _ (ps : List Pair) (found : List ℤ) where
       ext-getD no-pair (table (pair-in left) (length ps)) ps m
       (λ k l. let u : k < length ps = omega (arith, l, m) in table-at (pair-in left) no-pair (length ps) k u ∙ pair-read k u)
 
-module _ (s : Sheet) (e : Entry) (found : PlanAreas) (placed : EntryPlan s e) where
-  -- a column of times, read at every second place
+module _ (s : Sheet) (e : Entry) (found : PlanAreas) (placed : EntryPlan s e) (booked : EntryBooked s e) where
+  -- a column of times, read at every third place
   column : (l : List ℕ) (f : ℕ → ℕ) → length l ≡ s .trains → ((m : ℕ) → m < s .trains → f m ≡ nth l (suc m)) → table f (s .trains) ≡ l
   column l f e h =
       ext-getD 0 (table f (s .trains)) l (table-length f (s .trains) ∙ sym e)
@@ -101,20 +111,20 @@ module _ (s : Sheet) (e : Entry) (found : PlanAreas) (placed : EntryPlan s e) wh
   x = e .plan
 
   abbrev written : List ℕ
-  written = time-numbers (x .departure) (x .arrival) (s .trains)
+  written = plan-times s x
 
   written-at : (k : ℕ) → k < numbers-a-train * s .trains → at (over written (found .times)) k ≡ at written k
-  written-at k l = over-at written (found .times) 0 k (omega (arith, time-numbers-length (x .departure) (x .arrival) (s .trains)))
+  written-at k l = over-at written (found .times) 0 k (omega (arith, plan-times-length s x))
 
   pub plan-read : plan-in s (plan-left s (given e) found) ≡ x
   unfolding plan-in plan-left
   plan-read =
-      let times = times-found (x .departure) (x .arrival) (s .trains) in
-      rw (
-        take-at (x .train) (drop (length (x .train)) (found .trains)) (s .orders) (placed .schedule .placed),
-        column (x .departure) (λ m. at (over written (found .times)) (numbers-a-train * m)) (placed .schedule .departs)
-            (λ m l. written-at (numbers-a-train * m) (omega arith) ∙ times m l .departure-at),
-        column (x .arrival) (λ m. at (over written (found .times)) (numbers-a-train * m + 1)) (placed .arrives)
-            (λ m l. written-at (numbers-a-train * m + 1) (omega arith) ∙ times m l .arrival-at),
-      )
-      refl
+      let times = times-found (x .departure) (x .arrival) (x .window) (s .trains) in
+      let train = take-at (x .train) (drop (length (x .train)) (found .trains)) (s .orders) (placed .schedule .placed) in
+      let departure = column (x .departure) (λ m. at (over written (found .times)) (numbers-a-train * m)) (placed .schedule .departs)
+      (λ m l. written-at (numbers-a-train * m) (omega arith) ∙ times m l .departure-at) in
+      let arrival = column (x .arrival) (λ m. at (over written (found .times)) (numbers-a-train * m + 1)) (placed .arrives)
+      (λ m l. written-at (numbers-a-train * m + 1) (omega arith) ∙ times m l .arrival-at) in
+      let window = column (x .window) (λ m. at (over written (found .times)) (numbers-a-train * m + 2)) (booked .each-train)
+      (λ m l. written-at (numbers-a-train * m + 2) (omega arith) ∙ times m l .window-at) in
+      λ i. record { train = train i; departure = departure i; arrival = arrival i; window = window i }

@@ -6,7 +6,7 @@ use Prim.Native.Nat.{ℕ, _≤_, _<_}
 use native.Mathlib.Omega.{arith}
 use lib.ListN.{length}
 use Rattle.numbers.specs.DecidesLaws.{decides-le, test-true, test-false}
-use Rattle.numbers.specs.OneMoreLaws.{All, all-new, more-length}
+use Rattle.numbers.specs.OneMoreLaws.{All, more-length}
 use Rattle.numbers.specs.Over.{over}
 use Rattle.numbers.specs.OverLaws.{over-over}
 use Rattle.model.specs.Sheet.{Sheet}
@@ -14,11 +14,12 @@ use Rattle.model.specs.declared.ChoiceReply.{ChoiceReply}
 use Rattle.model.specs.declared.ChoiceReply.the-variants.{Chosen, Refused}
 use Rattle.model.specs.declared.Refusal.the-variants.{NoSchedule}
 use Rattle.rounds.specs.Recording.{Entry, record-entry, no-entry, last-entry}
-use Rattle.rounds.specs.RecordingLaws.{FromEnd, nothing, behind, from-end, record-all, record-lengthens, last-recorded, last-behind}
+use Rattle.rounds.specs.RecordingLaws.{FromEnd, nothing, behind, from-end, record-all, record-lengthens, last-recorded}
 use Rattle.rounds.specs.EntryPlan.{EntryPlan}
 use Rattle.rounds.specs.Answers.{Answer, refused, given, chosen}
-use Rattle.rounds.specs.Areas.{PlanAreas, choice-reply, time-numbers, plan-left}
-use Rattle.rounds.specs.AreaLaws.{time-numbers-length}
+use Rattle.rounds.specs.Areas.{PlanAreas, choice-reply, plan-times, plan-left}
+use Rattle.rounds.specs.AreaLaws.{plan-times-length}
+use Rattle.rounds.specs.InTimeLaws.{chosen-at}
 use Rattle.rounds.specs.ChoosingLaws.{all-in-time, later-first, later-leaves}
 use Rattle.rounds.specs.Told.{areas, ChoiceTold}
 use Rattle.planner.specs.Outcome.{choice-so}
@@ -47,41 +48,30 @@ module _ (s : Sheet) (wish : ℕ) where
         → before ≡ plan-left s x found
         → record {
           trains = over (e .plan .train) (before .trains);
-          times = over (time-numbers (e .plan .departure) (e .plan .arrival) (s .trains)) (before .times);
+          times = over (plan-times s (e .plan)) (before .times);
         } ≡ plan-left s (given e) found
     unfolding plan-left
     writes-over e own (refused r) plans before is = rw is
     writes-over e own (given e₀) plans before is =
         let own₀ = plans e₀ refl in
         let same = own₀ .schedule .placed ∙ sym (own .schedule .placed) in
-        let many = time-numbers-length (e .plan .departure) (e .plan .arrival) (s .trains) in
-        let many₀ = time-numbers-length (e₀ .plan .departure) (e₀ .plan .arrival) (s .trains) in
+        let many = plan-times-length s (e .plan) in
+        let many₀ = plan-times-length s (e₀ .plan) in
         rw (
           is,
           over-over (e .plan .train) (e₀ .plan .train) (found .trains) (omega (arith, same)),
-          over-over (time-numbers (e .plan .departure) (e .plan .arrival) (s .trains))
-              (time-numbers (e₀ .plan .departure) (e₀ .plan .arrival) (s .trains)) (found .times) (omega (arith, many, many₀)),
+          over-over (plan-times s (e .plan)) (plan-times s (e₀ .plan)) (found .times) (omega (arith, many, many₀)),
         )
         refl
 
-    -- what is chosen of entries that are all in time is one of them
+    -- what is chosen is one of the entries
     chosen-plan : All no-entry (EntryPlan s) entries → (e₀ : Entry) → chosen wish entries ≡ given e₀ → EntryPlan s e₀
-    unfolding chosen
-    chosen-plan plans e₀ is = go entries (from-end entries) plans (h .in-time early) is
-      where
-        go : (es : List Entry) → FromEnd es → All no-entry (EntryPlan s) es → All no-entry (λ e. e .pair .last ≤ wish) es → chosen wish es ≡ given e₀
-            → EntryPlan s e₀
-        go es nothing plans all u = absurd (let z : _≡_ {A = ℕ} 0 1 = cc in omega arith)
-        go es (behind before e) plans all u =
-            let some : 1 ≤ length (before ++ (e ∷ [])) = omega (arith, more-length no-entry before e) in
-            let same : given e₀ ≡ given e = sym u ∙ all-in-time wish (before ++ (e ∷ [])) some all ∙ ap given (last-behind before e) in
-            let is : e ≡ e₀ = cc in
-            subst (EntryPlan s) is (all-new no-entry before e (EntryPlan s) plans)
+    chosen-plan plans e₀ is = let h = chosen-at wish entries e₀ is in subst (EntryPlan s) (h .is) (plans (h .place) (h .among))
 
     -- a plan in time is recorded and written: it is the choice
     pub takes : (e : Entry) → e .pair .last ≤ wish → EntryPlan s e → All no-entry (EntryPlan s) entries → (trains times : List ℕ)
         → trains ≡ over (e .plan .train) (left .trains)
-        → times ≡ over (time-numbers (e .plan .departure) (e .plan .arrival) (s .trains)) (left .times)
+        → times ≡ over (plan-times s (e .plan)) (left .times)
         → Holds s wish (Chosen (e .pair .last) (e .pair .worst)) (areas trains times) found (e .pair .last) (record-entry entries e)
     unfolding choice-reply
     takes e timely own plans trains times trains-are times-are =

@@ -16,8 +16,9 @@ ghost use Rattle.rounds.specs.Told.{areas};
 ghost use Rattle.planner.specs.Outcome.{choice-so};
 ghost use Rattle.planner.specs.Choosing.{ChoosingCall};
 
-// Chooses for a sheet of either form: the train of each order, and the departure and the arrival of each train. No list is kept: each plan in time is
-// written over the one before, and the first pair later than the wish ends the search, since arrivals never fall from round to round.
+// Chooses for a sheet of either form: the train of each order, and the departure, the arrival and the window of each train, the window 0 in the timetable
+// form. No list is kept: each plan in time is written over the one before, and the first pair later than the wish ends the search, since arrivals never fall
+// from round to round.
 pub fn choose(sheet: Sheet, wish: u32, train_of_order: &mut [u8], times: &mut [u32]) -> ChoiceReply
     ensures { λ r. ⌜ ChoosingCall (sheetOf sheet) wish r (areas (now («train_of_order» .exit)) (now (times .exit)))
         (areas (now («train_of_order» .entry)) (now (times .entry))) ⌝ }
@@ -35,7 +36,8 @@ pub fn choose(sheet: Sheet, wish: u32, train_of_order: &mut [u8], times: &mut [u
             put_trains(train, sheet.order_count, train_of_order);
             let departure = progress.departure;
             let arrival = progress.arrival;
-            put_times(departure, arrival, sheet.train_count, times);
+            let window = progress.window;
+            put_times(departure, arrival, window, sheet.train_count, times);
             choice = ChoiceReply::Chosen {
                 last: progress.last,
                 worst: progress.limit,

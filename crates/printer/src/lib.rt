@@ -8,8 +8,9 @@ ghost use Rattle.writing.specs.Writing.{Prints, state, pass};
 ghost use Rattle.layout.specs.Lines.{refusal-line};
 ghost use Rattle.printer.specs.PlanBytes.{plan-bytes};
 
-// Prints a plan: the listed pairs (two numbers a pair), the train of each order, the times of each train (two numbers a train) and the rounds, with the
-// names of the orders from their places in the sheet's text. A lone last number of the pairs or of the times is passed over.
+// Prints a plan: the listed pairs (two numbers a pair), the train of each order, the times of each train (three numbers a train: departure, arrival, window)
+// and the rounds, with the names of the orders from their places in the sheet's text. A lone last number of the pairs, and one or two last numbers of the
+// times, are passed over.
 pub fn print_plan(
     text: &[u8],
     names: NamePlaces,

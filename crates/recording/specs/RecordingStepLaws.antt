@@ -14,7 +14,8 @@ use borrow.Author.Tests.{eq-eqb, ne-eqb}
 use Rattle.numbers.specs.Counting.{at}
 use Rattle.numbers.specs.DecidesLaws.{decided, decides-eq}
 use Rattle.numbers.specs.Over.{over}
-use Rattle.numbers.specs.OverLaws.{store-two-behind, store-two-over, copy-next}
+use Rattle.numbers.specs.OverLaws.{store-two-behind, store-three-behind, store-two-over, copy-next}
+use Rattle.model.specs.Limits.{numbers-a-train}
 use Rattle.model.specs.Lateness.{Pair}
 use Rattle.rounds.specs.Recording.{Entry, record-entry, listed, recorded-arrival}
 use Rattle.rounds.specs.RecordingLaws.{FromEnd, nothing, behind, from-end, record-same, record-other}
@@ -168,29 +169,44 @@ copy-last l found n some few h =
     ∙ ap (λ (m : ℕ). over (take m l) found) e
 
 -- the times of a train
-module _ (departure arrival found : List ℕ) (all : ℕ) where
+module _ (departure arrival window found : List ℕ) (all : ℕ) where
   -- of the first i trains
   abbrev times : ℕ → List ℕ
-  times i = time-numbers (take all departure) (take all arrival) i
+  times i = time-numbers (take all departure) (take all arrival) (take all window) i
 
-  times-next : (i : ℕ) → i < all → 2 * i + 1 < length found
-      → set (set (over (times i) found) (2 * i) (at departure i)) (2 * i + 1) (at arrival i) ≡ over (times (i + 1)) found
+  -- where those of train i + 1 begin
+  abbrev begin : ℕ → ℕ
+  begin i = numbers-a-train * i
+
+  times-long : (i : ℕ) → length (times i) ≡ begin i
+  times-long = time-numbers-length (take all departure) (take all arrival) (take all window)
+
+  -- those of train i + 1, written in an area
+  abbrev written-times : (i : ℕ) → List ℕ → List ℕ
+  written-times i area = set (set (set area (begin i) (at departure i)) (begin i + 1) (at arrival i)) (begin i + 1 + 1) (at window i)
+
+  times-next : (i : ℕ) → i < all → begin i + 1 + 1 < length found → written-times i (over (times i) found) ≡ over (times (i + 1)) found
   unfolding time-numbers
   times-next i few h =
       let b : suc i - 1 ≡ i = omega arith in
-      let behind = time-numbers-length (take all departure) (take all arrival) i in
-      rw (add-one i, b, getD-take all departure i 0 few, getD-take all arrival i 0 few)
-      (store-two-behind (times i) found (2 * i) (at departure i) (at arrival i) behind h)
+      rw (add-one i, b, getD-take all departure i 0 few, getD-take all arrival i 0 few, getD-take all window i 0 few)
+      (store-three-behind (times i) found (begin i) (at departure i) (at arrival i) (at window i) (times-long i) h)
 
-  pub times-last : (q : ℕ) → 0 < q → q ≤ all → 2 * q ≤ length found
-      → let i = q - 1 in over (times i) (set (set found (2 * i) (at departure i)) (2 * i + 1) (at arrival i)) ≡ over (times q) found
+  -- a store behind the times of the first i trains, in an area as long as the one found
+  store-over : (i k v : ℕ) (area : List ℕ) → begin i ≤ k → k < length found → length area ≡ length found
+      → over (times i) (set area k v) ≡ set (over (times i) area) k v
+  store-over i k v area h l e = set-over (times i) area k v (omega (arith, times-long i)) (omega arith)
+
+  pub times-last : (q : ℕ) → 0 < q → q ≤ all → begin q ≤ length found → over (times (q - 1)) (written-times (q - 1) found) ≡ over (times q) found
   times-last q some few h =
       let i = q - 1 in
       let e : i + 1 ≡ q = omega arith in
-      let short = time-numbers-length (take all departure) (take all arrival) i in
-      let v = at departure i in
-      let w = at arrival i in
-      set-over (times i) (set found (2 * i) v) (2 * i + 1) w (omega (arith, short)) (simp length-set (omega arith))
-      ∙ ap (λ (l : List ℕ). set l (2 * i + 1) w) (set-over (times i) found (2 * i) v (omega (arith, short)) (omega arith))
+      let once = set found (begin i) (at departure i) in
+      let twice = set once (begin i + 1) (at arrival i) in
+      store-over i (begin i + 1 + 1) (at window i) twice (omega arith) (omega arith) (simp length-set)
+      ∙ ap (λ (l : List ℕ). set l (begin i + 1 + 1) (at window i))
+      (store-over i (begin i + 1) (at arrival i) once (omega arith) (omega arith) (simp length-set)
+      ∙ ap (λ (l : List ℕ). set l (begin i + 1) (at arrival i))
+      (store-over i (begin i) (at departure i) found (omega arith) (omega arith) refl))
       ∙ times-next i (omega arith) (omega arith)
       ∙ ap (λ (m : ℕ). over (times m) found) e

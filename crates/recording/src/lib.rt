@@ -41,15 +41,16 @@ pub fn put_trains(train: [u8; MOST_ORDERS], mut n: usize, out: &mut [u8])
     }
 }
 
-// The departure and the arrival of each of q trains, to the front of the lent area.
+// The departure, the arrival and the window of each of q trains, to the front of the lent area.
 pub fn put_times(
     departure: [u32; MOST_TRAINS],
     arrival: [u32; MOST_TRAINS],
+    window: [u8; MOST_TRAINS],
     mut q: usize,
     out: &mut [u32],
 )
     requires { ⌜ (q ≤ train-counts .most) × (numbers-a-train * q ≤ length (now out)) ⌝ }
-    ensures { λ _. ⌜ now (out .exit) ≡ over (time-numbers (take q departure) (take q arrival) q) (now (out .entry)) ⌝ }
+    ensures { λ _. ⌜ now (out .exit) ≡ over (time-numbers (take q departure) (take q arrival) (take q window) q) (now (out .entry)) ⌝ }
 {
     while q > 0 {
         q -= 1;
@@ -57,5 +58,7 @@ pub fn put_times(
         out[k] = departure[q];
         k += 1;
         out[k] = arrival[q];
+        k += 1;
+        out[k] = window[q] as u32;
     }
 }

@@ -75,7 +75,7 @@ module _ (s : Sheet) (a : Admitted s) where
     where
       go : list s ≡ refused NoSchedule → (t : Timed) → first-timing s ≡ t → t ≡ stopped
       go e stopped u = refl
-      go e (timed S F) u = absurd (eight-means e (first-train s) S (next-schedule s a 0 0 _ above-everything [] (at-start s a) S F u))
+      go e (timed S F W) u = absurd (eight-means e (first-train s) S (next-schedule s a 0 0 _ above-everything [] (at-start s a) S F W u))
 
       first-stops : first-timing s ≡ stopped → rounds s 1 (start s) ≡ ended 1 []
       first-stops e = ap (depart s 1 _ above-everything [] (first-train s)) e

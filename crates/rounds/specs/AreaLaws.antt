@@ -17,12 +17,12 @@ use Rattle.model.specs.declared.Admission.{Admission}
 use Rattle.model.specs.declared.Admission.the-variants as tests
 use Rattle.model.specs.declared.Refusal.{Refusal}
 use Rattle.model.specs.declared.Refusal.the-variants.{AreaTooShort}
-use Rattle.rounds.specs.Recording.{Entry}
+use Rattle.rounds.specs.Recording.{Plan, Entry}
 use Rattle.rounds.specs.Rounds.{Search, going, ended, search}
 use Rattle.rounds.specs.Answers.{Answer, refused, given, Listing, list-of, list, in-time, chosen, choice-of, choose}
 use Rattle.rounds.specs.Areas.{PlanAreas, pairs-needed, times-needed, ListRoom, list-room, PlanRoom, plan-room}
 use Rattle.rounds.specs.Areas.{after-admission, tested, after-tests, list-to, choose-to, list-reply, choice-reply}
-use Rattle.rounds.specs.Areas.{pair-numbers, time-numbers, list-left, plan-left}
+use Rattle.rounds.specs.Areas.{pair-numbers, time-numbers, plan-times, list-left, plan-left}
 
 -- test 10, of each call
 pub decides-list-room : (s : Sheet) (pairs : List ℤ) → Decides (ListRoom s pairs) (list-room s (length pairs))
@@ -45,11 +45,14 @@ unfolding pair-numbers
 pair-numbers-behind [] p = refl
 pair-numbers-behind (x ∷ before) p = ap (λ l. pos (x .last) ∷ x .worst ∷ l) (pair-numbers-behind before p)
 
--- two numbers a train
-pub time-numbers-length : (departure arrival : List ℕ) (q : ℕ) → length (time-numbers departure arrival q) ≡ numbers-a-train * q
+-- three numbers a train
+pub time-numbers-length : (departure arrival window : List ℕ) (q : ℕ) → length (time-numbers departure arrival window q) ≡ numbers-a-train * q
 unfolding time-numbers
-time-numbers-length departure arrival zero = refl
-time-numbers-length departure arrival (suc q) = simp (length-append, time-numbers-length departure arrival q) (omega arith)
+time-numbers-length departure arrival window zero = refl
+time-numbers-length departure arrival window (suc q) = simp (length-append, time-numbers-length departure arrival window q) (omega arith)
+
+pub plan-times-length : (s : Sheet) (x : Plan) → length (plan-times s x) ≡ times-needed s
+plan-times-length s x = time-numbers-length (x .departure) (x .arrival) (x .window) (s .trains)
 
 -- ---- a refused call: "always with 0 returned and every lent area as found"
 

@@ -1,4 +1,4 @@
--- DOCUMENT 01, "LENT MEMORY", AND DOCUMENT 02, NO. 1: WHAT EACH PLANNING CALL ANSWERS, AND WHAT EACH LENT AREA THEN HOLDS.
+-- DOCUMENT 01, "LENT MEMORY", AND DOCUMENT 02, NO. 1 AND 2: WHAT EACH PLANNING CALL ANSWERS, AND WHAT EACH LENT AREA THEN HOLDS.
 use mathlib.Core.Bool.{Bool, _&&_, cond}
 use mathlib.Core.List.{List, [], _∷_, _++_}
 use Prim.Native.Nat.{ℕ, zero, suc, _*_, _≤_}
@@ -18,7 +18,7 @@ use Rattle.model.specs.declared.ListReply.{ListReply}
 use Rattle.model.specs.declared.ListReply.the-variants as listing
 use Rattle.model.specs.declared.ChoiceReply.{ChoiceReply}
 use Rattle.model.specs.declared.ChoiceReply.the-variants as choosing
-use Rattle.rounds.specs.Recording.{Entry}
+use Rattle.rounds.specs.Recording.{Plan, Entry}
 use Rattle.rounds.specs.Answers.{Answer, refused, given, Listing, list, choose}
 
 -- ---- test 10: "Each call tests under 10 only the areas that it fills."
@@ -27,7 +27,7 @@ use Rattle.rounds.specs.Answers.{Answer, refused, given, Listing, list, 
 abbrev pub pairs-needed : Sheet → ℕ
 pairs-needed s = numbers-a-pair * (s .orders * s .trains)
 
--- "times of train (at least q)", two numbers each: departure, arrival
+-- "times of train (at least q)", three numbers each: departure, arrival, window
 abbrev pub times-needed : Sheet → ℕ
 times-needed s = numbers-a-train * s .trains
 
@@ -99,17 +99,22 @@ unfolding pair-numbers
 list-left (refused r) found = found
 list-left (given l) found = over (pair-numbers (l .pairs)) found
 
--- "q departures with arrivals"
-unfoldable pub time-numbers : (departure arrival : List ℕ) → ℕ → List ℕ
-time-numbers departure arrival zero = []
-time-numbers departure arrival (suc i) = time-numbers departure arrival i ++ (nth departure (suc i) ∷ nth arrival (suc i) ∷ [])
+-- "q departures with arrivals", each with its window
+unfoldable pub time-numbers : (departure arrival window : List ℕ) → ℕ → List ℕ
+time-numbers departure arrival window zero = []
+time-numbers departure arrival window (suc i) =
+    time-numbers departure arrival window i ++ (nth departure (suc i) ∷ nth arrival (suc i) ∷ nth window (suc i) ∷ [])
 
--- "n trains; q departures with arrivals"
+-- those of a plan
+abbrev pub plan-times : Sheet → Plan → List ℕ
+plan-times s x = time-numbers (x .departure) (x .arrival) (x .window) (s .trains)
+
+-- "n trains; q departures with arrivals", and the windows
 unfoldable pub plan-left : Sheet → Answer Entry → (found : PlanAreas) → PlanAreas
 unfolding time-numbers
 plan-left s (refused r) found = found
 plan-left s (given e) found =
     record {
       trains = over (e .plan .train) (found .trains);
-      times = over (time-numbers (e .plan .departure) (e .plan .arrival) (s .trains)) (found .times);
+      times = over (plan-times s (e .plan)) (found .times);
     }

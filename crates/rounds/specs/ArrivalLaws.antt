@@ -65,7 +65,7 @@ round-records s c latest y recorded = go (times s (loading s latest))
   where
     go : (t : Timed) → Records y recorded (recorded-in (depart s (suc c) latest y recorded (loading s latest) t))
     go stopped = nothing-more
-    go (timed S F) = graded s (suc c) latest y recorded (record { train = loading s latest; departure = S; arrival = F })
+    go (timed S F W) = graded s (suc c) latest y recorded (record { train = loading s latest; departure = S; arrival = F; window = W })
 
 -- ---- of an admitted sheet that entry is not earlier than the one recorded last
 

@@ -7,6 +7,7 @@ use Rattle.model.specs.Sheet.{Sheet}
 use Rattle.model.specs.Schedule.{Schedule}
 use Rattle.model.specs.Arrival.{arrival}
 use Rattle.model.specs.Lateness.{pairOf}
+use Rattle.model.specs.Booking.{Booked}
 use Rattle.rounds.specs.Recording.{Entry}
 
 -- "record the pair (F_q, z) and this plan": the plan is a schedule, with the model's arrivals, and the pair is its own
@@ -16,3 +17,7 @@ pub record EntryPlan (s : Sheet) (e : Entry) : Type 0 where
   pub arrives : length (e .plan .arrival) ≡ s .trains
   pub arrivals : (i : ℕ) → 1 ≤ i → i ≤ s .trains → nth (e .plan .arrival) i ≡ arrival (s .paths) (nth (e .plan .departure)) i
   pub pair : pairOf s (e .plan .train) (e .plan .departure) ≡ e .pair
+
+-- document 02, No. 2: the windows of the plan are those of its departures
+abbrev pub EntryBooked : Sheet → Entry → Type 0
+EntryBooked s e = Booked s (e .plan .departure) (e .plan .window)

@@ -13,19 +13,19 @@ use Rattle.numbers.specs.DecidesLaws.{decides-le, decides-lt, decided}
 use Rattle.numbers.specs.OneMoreLaws.{All}
 use Rattle.numbers.specs.CountingLaws.{count-none, count-all}
 use Rattle.model.specs.Sheet.{Sheet, places}
-use Rattle.model.specs.Schedule.{Schedule, Departures}
+use Rattle.model.specs.Schedule.{Schedule}
 use Rattle.model.specs.Arrival.{arrival}
 use Rattle.model.specs.Admission.{Admitted}
 use Rattle.rounds.specs.Timing.{ready, Timed, timed}
 use Rattle.rounds.specs.Recording.{Entry, no-entry}
-use Rattle.rounds.specs.EntryPlan.{EntryPlan}
+use Rattle.rounds.specs.EntryPlan.{EntryPlan, EntryBooked}
 use Rattle.rounds.specs.Rounds.{Search, going, ended, above-everything, recorded-in, start, loading, times, round, rounds, search}
 use Rattle.rounds.specs.RoundsBound.{rounds-bound}
 use Rattle.rounds.specs.SumLaws.{sum-same, within-limit}
-use Rattle.rounds.specs.TimingRuleLaws.{Outcome, least-run}
-use Rattle.rounds.specs.ScheduleLaws.{rule}
+use Rattle.rounds.specs.TimingRuleLaws.{least-run}
+use Rattle.rounds.specs.ScheduleLaws.{Run, rule}
 use Rattle.rounds.specs.FrontSoFarLaws.{nothing-yet}
-use Rattle.rounds.specs.OneRoundLaws.{Keeps, Going, Ended, Invariant, still, finished, covered, bounded-now, schedule, round-keeps}
+use Rattle.rounds.specs.OneRoundLaws.{Keeps, OnRecord, Going, Ended, Invariant, still, finished, covered, bounded-now, schedule, round-keeps}
 
 -- the search has ended
 pub data Over (s : Sheet) : Search → Type 0 where
@@ -40,7 +40,7 @@ module _ (s : Sheet) (a : Admitted s) where
         upto = λ j l. omega (arith, all-last j l);
         fits = λ i l. fits i l (decided (decides-lt i (s .trains)));
         keeps = λ train departure h w j l. omega (arith, all-last j l, h .on-a-train j l .1);
-        on-record = record { front = nothing-yet refl; plans = λ k l. absurd (omega arith); few = omega arith };
+        on-record = record { front = nothing-yet refl; plans = λ k l. absurd (omega arith); booked = λ k l. absurd (omega arith); few = omega arith };
       }
     where
       latest : List ℕ
@@ -73,13 +73,20 @@ module _ (s : Sheet) (a : Admitted s) where
   after : (k : ℕ) → Invariant s k (rounds s k (start s))
   after k = simp add-zero at (more-rounds k 0 (start s) start-is)
 
+  on-record-after : (k : ℕ) → (y : ℤ) × (c : ℕ) × OnRecord s y (recorded-in (rounds s k (start s))) c
+  on-record-after k = go (rounds s k (start s)) (after k)
+    where
+      go : (x : Search) → Invariant s k x → (y : ℤ) × (c : ℕ) × OnRecord s y (recorded-in x) c
+      go x (still {c = c} {y = y} g) = (y, c, g .on-record)
+      go x (finished {c = c} h) = (h .limit, c, h .on-record)
+
   -- OF EACH RECORDED ENTRY, AT ANY TIME, THE PLAN IS A SCHEDULE WHOSE PAIR IT IS
   pub entry-plans : (k : ℕ) → All no-entry (EntryPlan s) (recorded-in (rounds s k (start s)))
-  entry-plans k = go (rounds s k (start s)) (after k)
-    where
-      go : (x : Search) → Invariant s k x → All no-entry (EntryPlan s) (recorded-in x)
-      go x (still g) = g .on-record .plans
-      go x (finished h) = h .on-record .plans
+  entry-plans k = on-record-after k .2 .plans
+
+  -- AND THE WINDOWS ARE THOSE OF ITS DEPARTURES
+  pub entry-booked : (k : ℕ) → All no-entry (EntryBooked s) (recorded-in (rounds s k (start s)))
+  entry-booked k = on-record-after k .2 .booked
 
   -- ---- a search that goes on
 
@@ -91,28 +98,29 @@ module _ (s : Sheet) (a : Admitted s) where
       go (still g) = g
 
   module _ (k c : ℕ) (latest : List ℕ) (y : ℤ) (recorded : List Entry) (g : Going s k c latest y recorded)
-      (S F : List ℕ) (e : times s (loading s latest) ≡ timed S F) where
-    abbrev Run : Timed → Type 0
-    Run = Outcome (s .trains) (Departures (s .paths) (s .trains)) (arrival (s .paths)) (ready (s .release) (loading s latest) (s .orders))
+      (S F W : List ℕ) (e : times s (loading s latest) ≡ timed S F W) where
+    abbrev NextRun : Timed → Type 0
+    NextRun = Run s (ready (s .release) (loading s latest) (s .orders))
 
-    run : Run (timed S F)
-    run = subst Run e (rule s a .outcome _)
+    run : NextRun (timed S F W)
+    run = subst NextRun e (rule s a .outcome _)
 
     -- its next plan is a schedule
     pub next-schedule : Schedule s (loading s latest) S
     next-schedule = go run
       where
-        go : Run (timed S F) → Schedule s (loading s latest) S
-        go (least-run size-S size-F arrives ok cov least) = schedule s a k c latest y recorded g S F size-S size-F arrives ok cov least
+        go : NextRun (timed S F W) → Schedule s (loading s latest) S
+        go (least-run size-S size-F arrives size-W books ok cov least) =
+            schedule s a k c latest y recorded g S F W size-S size-F arrives size-W books ok cov least
 
     -- that departs and arrives, train by train, no later than any schedule that keeps to its latest trains
     pub earliest-plan : (train departure : List ℕ) → Schedule s train departure → Keeps s latest train
         → (i : ℕ) → 1 ≤ i → i ≤ s .trains → (nth S i ≤ nth departure i) × (nth F i ≤ arrival (s .paths) (nth departure) i)
     earliest-plan train departure h keeps = go run
       where
-        go : Run (timed S F)
+        go : NextRun (timed S F W)
             → (i : ℕ) → 1 ≤ i → i ≤ s .trains → (nth S i ≤ nth departure i) × (nth F i ≤ arrival (s .paths) (nth departure) i)
-        go (least-run size-S size-F arrives ok cov least) i p l =
+        go (least-run size-S size-F arrives size-W books ok cov least) i p l =
             let (d, f) = least (nth departure) (h .departures) (covered s a k c latest y recorded g train departure h keeps) i p l in
             (d, omega (arith, arrives i p l))
 

@@ -17,6 +17,7 @@ use Rattle.numbers.specs.SignedLaws.{≤ℤ-trans, <ℤ-weaken, ≮ℤ-≤ℤ, 
 use Rattle.model.specs.Sheet.{Sheet, places}
 use Rattle.model.specs.Schedule.{Schedule, Departures}
 use Rattle.model.specs.Arrival.{arrival}
+use Rattle.model.specs.Booking.{BookedBy}
 use Rattle.model.specs.Lateness.{pairOf, lateness, worst}
 use Rattle.model.specs.LatenessLaws.{lateness-rises, worst-above, worst-one}
 use Rattle.model.specs.Admission.{Admitted}
@@ -25,7 +26,7 @@ use Rattle.rounds.specs.Timing.{ready, Timed}
 use Rattle.rounds.specs.TimingLaws.{ready-above, ready-least, Covers}
 use Rattle.rounds.specs.Recording.{Plan, Entry, record-entry, no-entry}
 use Rattle.rounds.specs.RecordingLaws.{record-all, record-lengthens}
-use Rattle.rounds.specs.EntryPlan.{EntryPlan}
+use Rattle.rounds.specs.EntryPlan.{EntryPlan, EntryBooked}
 use Rattle.rounds.specs.Lowering.{lower, crowded}
 use Rattle.rounds.specs.LoweringLaws.{GreatestEarly, latest-below-is, lower-at, Crowded, decides-crowded}
 use Rattle.rounds.specs.Rounds.{Search, going, ended, loading, times, settle, grade, depart, round}
@@ -33,8 +34,8 @@ use Rattle.rounds.specs.RoundsBound.{rounds-bound}
 use Rattle.rounds.specs.SumLaws.{sum-lt, sum-near}
 use Rattle.rounds.specs.GreedyLaws.{Greedy, uncrowded, filled, released-in-any, every-loaded}
 use Rattle.rounds.specs.LoadLaws.{load-length, load-greedy}
-use Rattle.rounds.specs.TimingRuleLaws.{NoLater, Outcome, none-covers, least-run}
-use Rattle.rounds.specs.ScheduleLaws.{worst-same, rule, rides}
+use Rattle.rounds.specs.TimingRuleLaws.{NoLater, none-covers, least-run}
+use Rattle.rounds.specs.ScheduleLaws.{worst-same, Run, rule, rides}
 use Rattle.rounds.specs.FrontSoFarLaws.{Recorded, recording}
 
 module _ (s : Sheet) where
@@ -42,10 +43,11 @@ module _ (s : Sheet) where
   abbrev pub Keeps : (latest train : List ℕ) → Type 0
   Keeps latest train = (j : ℕ) → j < s .orders → at train j ≤ at latest j
 
-  -- what is recorded where the limit is y: the front so far, each entry with its plan, and no more entries than rounds
+  -- what is recorded where the limit is y: the front so far, each entry with its plan and that with its windows, and no more entries than rounds
   pub record OnRecord (y : ℤ) (recorded : List Entry) (c : ℕ) : Type 0 where
     pub front : Recorded s y recorded
     pub plans : All no-entry (EntryPlan s) recorded
+    pub booked : All no-entry (EntryBooked s) recorded
     pub few : length recorded ≤ c
 
   -- the search goes on after k rounds
@@ -112,7 +114,7 @@ module _ (s : Sheet) (a : Admitted s) (k c : ℕ) (latest : List ℕ) (y : ℤ) 
   bounded-now = omega (arith, g .shrunk, sum-near s (a .complete .trains) (at latest) (g .upto) (g .fits))
 
   one-round-later : OnRecord s y recorded c → OnRecord s y recorded (suc c)
-  one-round-later r = record { front = r .front; plans = r .plans; few = omega (arith, r .few) }
+  one-round-later r = record { front = r .front; plans = r .plans; booked = r .booked; few = omega (arith, r .few) }
 
   -- "If there is none, stop."
   stops : ((S : ℕ → ℕ) → Departures (s .paths) q S → ¬ Covers q released S) → Ended s (suc c) recorded
@@ -126,14 +128,15 @@ module _ (s : Sheet) (a : Admitted s) (k c : ℕ) (latest : List ℕ) (y : ℤ) 
 
   -- ---- steps 3 to 5, with the times known
 
-  module _ (S F : List ℕ) (size-S : length S ≡ q) (size-F : length F ≡ q) (arrives : (i : ℕ) → 1 ≤ i → i ≤ q → nth F i ≡ arrival (s .paths) (nth S) i)
+  module _ (S F W : List ℕ) (size-S : length S ≡ q) (size-F : length F ≡ q) (arrives : (i : ℕ) → 1 ≤ i → i ≤ q → nth F i ≡ arrival (s .paths) (nth S) i)
+      (size-W : length W ≡ q) (books : (i : ℕ) → 1 ≤ i → i ≤ q → BookedBy (s .paths) (nth S i) (nth W i))
       (ok : Departures (s .paths) q (nth S)) (cov : Covers q released (nth S))
       (least : (S′ : ℕ → ℕ) → Departures (s .paths) q S′ → Covers q released S′ → NoLater q (arrival (s .paths)) (nth S) S′) where
     abbrev z : ℤ
     z = worst s train (nth F)
 
     abbrev plan : Plan
-    plan = record { train = train; departure = S; arrival = F }
+    plan = record { train = train; departure = S; arrival = F; window = W }
 
     abbrev entry : Entry
     entry = record { pair = record { last = nth F q; worst = z }; plan = plan }
@@ -255,6 +258,7 @@ module _ (s : Sheet) (a : Admitted s) (k c : ℕ) (latest : List ℕ) (y : ℤ) 
           front = recording s a y entry (train, S, schedule, pair-is) better
               (λ other departure h l. sooner other departure h l q (a .complete .trains) (omega arith)) recorded (g .on-record .front);
           plans = record-all (EntryPlan s) recorded entry (g .on-record .plans) entry-plan;
+          booked = record-all (EntryBooked s) recorded entry (g .on-record .booked) (record { each-train = size-W; by-window = books });
           few = omega (arith, g .on-record .few, record-lengthens recorded entry .one-more);
         }
 
@@ -272,6 +276,7 @@ module _ (s : Sheet) (a : Admitted s) (k c : ℕ) (latest : List ℕ) (y : ℤ) 
   unfolding round depart
   round-keeps = go (times s train) (rule s a .outcome released)
     where
-      go : (t : Timed) → Outcome q (Departures (s .paths) q) (arrival (s .paths)) released t → Invariant s (suc k) (depart s (suc c) latest y recorded train t)
+      go : (t : Timed) → Run s released t → Invariant s (suc k) (depart s (suc c) latest y recorded train t)
       go t (none-covers f) = finished (stops f)
-      go t (least-run {S = S} {F = F} size-S size-F arrives ok cov least) = graded S F size-S size-F arrives ok cov least
+      go t (least-run {S = S} {F = F} {W = W} size-S size-F arrives size-W books ok cov least) =
+          graded S F W size-S size-F arrives size-W books ok cov least

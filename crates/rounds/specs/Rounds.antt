@@ -68,8 +68,8 @@ grade s c latest y recorded plan =
 unfoldable pub depart : Sheet → (rounds : ℕ) (latest : List ℕ) (y : ℤ) (recorded : List Entry) (train : List ℕ) → Timed → Search
 unfolding grade
 depart s c latest y recorded train stopped = ended c recorded
-depart s c latest y recorded train (timed departure arrival) =
-    grade s c latest y recorded record { train = train; departure = departure; arrival = arrival }
+depart s c latest y recorded train (timed departure arrival window) =
+    grade s c latest y recorded record { train = train; departure = departure; arrival = arrival; window = window }
 
 -- "A round is:" steps 1 to 5. After the end a further round changes nothing.
 unfoldable pub round : Sheet → Search → Search

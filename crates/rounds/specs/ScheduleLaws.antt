@@ -14,16 +14,16 @@ use Rattle.numbers.specs.CountingLaws.{count-none}
 use Rattle.numbers.specs.SignedLaws.{size-below}
 use Rattle.model.specs.Sheet.{Sheet}
 use Rattle.model.specs.Limits.{last-arrival}
-use Rattle.model.specs.Schedule.{Schedule, Departures}
+use Rattle.model.specs.Schedule.{Schedule}
 use Rattle.model.specs.Arrival.{arrival}
 use Rattle.model.specs.Lateness.{Pair, pairOf, lateness, greatest-lateness, worst}
 use Rattle.model.specs.LatenessLaws.{lateness-size, worst-one}
 use Rattle.model.specs.Admission.{Admitted}
 use Rattle.rounds.specs.LoadingLaws.{on, decides-on}
-use Rattle.rounds.specs.Timing.{timed, timing}
+use Rattle.rounds.specs.Timing.{Timed, timed, timing}
 use Rattle.rounds.specs.Rounds.{above-everything}
 use Rattle.rounds.specs.GreedyLaws.{Rides}
-use Rattle.rounds.specs.TimingRuleLaws.{Outcome, least-run, TimingRule, paths-rule}
+use Rattle.rounds.specs.TimingRuleLaws.{least-run, RunOn, RuleOf, paths-rule}
 
 -- the greatest last arrival, and the greatest size of a weighted lateness
 pub record SmallPair (p : Pair) : Type 0 where
@@ -46,20 +46,23 @@ worst-same s some-order train F G h =
     greatest-same (λ j. lateness (s .weight j) (F (at train j)) (s .due j)) (λ j. lateness (s .weight j) (G (at train j)) (s .due j)) (s .orders - 1)
     (λ j l. ap (λ (t : ℕ). lateness (s .weight j) t (s .due j)) (h j (omega arith)))
 
+-- what the timing of the sheet's own form comes to for these releases
+abbrev pub Run : Sheet → (released : ℕ → ℕ) → Timed → Type 0
+Run s = RunOn (s .paths) (s .trains)
+
 module _ (s : Sheet) (a : Admitted s) where
-  -- the timing rule of the sheet's own form
-  pub rule : TimingRule (s .trains) (Departures (s .paths) (s .trains)) (arrival (s .paths)) (timing (s .paths) (s .trains))
+  -- the timing rule of that form
+  pub rule : RuleOf (s .paths) (s .trains)
   rule = paths-rule (s .paths) (s .trains) (a .few .trains) (a .in-range .paths) (a .in-order)
 
   -- a timing has a departure and an arrival for each train, none after the last arrival
-  pub timed-within : (released : ℕ → ℕ) (S F : List ℕ) → timing (s .paths) (s .trains) released ≡ timed S F
+  pub timed-within : (released : ℕ → ℕ) (S F W : List ℕ) → timing (s .paths) (s .trains) released ≡ timed S F W
       → (length S ≡ s .trains) × (length F ≡ s .trains) × ((i : ℕ) → 1 ≤ i → i ≤ s .trains → nth F i ≤ last-arrival)
-  timed-within released S F e =
-      go S F (subst (Outcome (s .trains) (Departures (s .paths) (s .trains)) (arrival (s .paths)) released) e (rule .outcome released))
+  timed-within released S F W e = go S F W (subst (Run s released) e (rule .outcome released))
     where
-      go : (S F : List ℕ) → Outcome (s .trains) (Departures (s .paths) (s .trains)) (arrival (s .paths)) released (timed S F)
+      go : (S F W : List ℕ) → Run s released (timed S F W)
           → (length S ≡ s .trains) × (length F ≡ s .trains) × ((i : ℕ) → 1 ≤ i → i ≤ s .trains → nth F i ≤ last-arrival)
-      go S F (least-run size-S size-F arrives ok cov least) =
+      go S F W (least-run size-S size-F arrives size-W books ok cov least) =
           (size-S, size-F, λ i p l. omega (arith, arrives i p l, rule .arrivals-bounded (nth S) ok i p l))
 
   module _ (train departure : List ℕ) (h : Schedule s train departure) where

@@ -6,30 +6,32 @@ use Prim.Native.Nat.{ℕ, zero, suc, _-_, _≤_, _<_}
 use native.Mathlib.Omega.{arith}
 use native.Mathlib.Nat.{mul-le-mul}
 use lib.Dec.{leb}
-use lib.ListN.{length}
+use lib.ListN.{length, replicate, length-replicate, getD-replicate}
 use Rattle.numbers.specs.Counting.{nth, row, each}
 use Rattle.numbers.specs.DecidesLaws.{Decides, decides-le, decides-each, numbered}
 use Rattle.numbers.specs.CountingLaws.{table-length, table-at}
 use Rattle.model.specs.Sheet.{Windows, Timetable, Paths, windows, timetable}
-use Rattle.model.specs.Schedule.{InWindows, OnTimetable, Departures}
+use Rattle.model.specs.Schedule.{InWindows, Departures}
+use Rattle.model.specs.Booking.{BookedBy}
 use Rattle.model.specs.Arrival.{arrival, arrivalBehind}
 use Rattle.model.specs.ArrivalLaws.{behind-by-the-gap, arrival-bound}
 use Rattle.model.specs.Admission.{WindowsInRange, TimesInRange, PathsInRange, WindowsInOrder, TimesInOrder, PathsInOrder}
 use Rattle.rounds.specs.Timing.{Timed, stopped, timed, Departed, departures, arrive, on-timetable, timing}
-use Rattle.rounds.specs.TimingLaws.{climbs, Covers, Earliest, none-can, earliest-are, departures-are}
+use Rattle.rounds.specs.TimingLaws.{climbs, in-one-window, Covers, Earliest, none-can, earliest-are, departures-are}
 
 -- trains 1 .. q that depart at S, and so arrive at `arrives S`, depart and arrive no later than at S′
 abbrev pub NoLater : (q : ℕ) (arrives : (ℕ → ℕ) → ℕ → ℕ) (S S′ : ℕ → ℕ) → Type 0
 NoLater q arrives S S′ = (i : ℕ) → 1 ≤ i → i ≤ q → (S i ≤ S′ i) × (arrives S i ≤ arrives S′ i)
 
--- the departures of trains 1 .. q that are allowed, and the arrivals that they bring
-module _ (q : ℕ) (Allowed : (ℕ → ℕ) → Type 0) (arrives : (ℕ → ℕ) → ℕ → ℕ) where
-  -- what timing for these releases comes to: no allowed departures cover them; or the least that do, with their arrivals
+-- the departures of trains 1 .. q that are allowed, the arrivals that they bring, and the windows by which they are booked
+module _ (q : ℕ) (Allowed : (ℕ → ℕ) → Type 0) (arrives : (ℕ → ℕ) → ℕ → ℕ) (Books : (t m : ℕ) → Type 0) where
+  -- what timing for these releases comes to: no allowed departures cover them; or the least that do, with their arrivals and windows
   pub data Outcome (released : ℕ → ℕ) : Timed → Type 0 where
     none-covers : ((S : ℕ → ℕ) → Allowed S → ¬ Covers q released S) → Outcome released stopped
-    least-run : {S F : List ℕ} → length S ≡ q → length F ≡ q → ((i : ℕ) → 1 ≤ i → i ≤ q → nth F i ≡ arrives (nth S) i)
+    least-run : {S F W : List ℕ} → length S ≡ q → length F ≡ q → ((i : ℕ) → 1 ≤ i → i ≤ q → nth F i ≡ arrives (nth S) i)
+        → length W ≡ q → ((i : ℕ) → 1 ≤ i → i ≤ q → Books (nth S i) (nth W i))
         → Allowed (nth S) → Covers q released (nth S) → ((S′ : ℕ → ℕ) → Allowed S′ → Covers q released S′ → NoLater q arrives (nth S) S′)
-        → Outcome released (timed S F)
+        → Outcome released (timed S F W)
 
   -- THE INTERFACE: departures and arrivals rise by train and are in the table's range, and each timing has such an outcome
   pub record TimingRule (time : (released : ℕ → ℕ) → Timed) : Type 0 where
@@ -38,6 +40,13 @@ module _ (q : ℕ) (Allowed : (ℕ → ℕ) → Type 0) (arrives : (ℕ → ℕ)
     pub departures-bounded : (S : ℕ → ℕ) → Allowed S → (i : ℕ) → 1 ≤ i → i ≤ q → S i ≤ 100000
     pub arrivals-bounded : (S : ℕ → ℕ) → Allowed S → (i : ℕ) → 1 ≤ i → i ≤ q → arrives S i ≤ 160000
     pub outcome : (released : ℕ → ℕ) → Outcome released (time released)
+
+-- both of the trains' paths, in either form
+abbrev pub RunOn : Paths → (q : ℕ) (released : ℕ → ℕ) → Timed → Type 0
+RunOn f q = Outcome q (Departures f q) (arrival f) (BookedBy f)
+
+abbrev pub RuleOf : Paths → (q : ℕ) → Type 0
+RuleOf f q = TimingRule q (Departures f q) (arrival f) (BookedBy f) (timing f q)
 
 -- element i of a row
 row-at : (f : ℕ → ℕ) (q : ℕ) (i : ℕ) → 1 ≤ i → i ≤ q → nth (row f q) i ≡ f i
@@ -58,18 +67,18 @@ arrival-step g p S zero l = absurd (omega arith)
 arrival-step g p S (suc i) l = omega (arith, behind-by-the-gap g p S i)
 
 module _ (w : Windows) (q : ℕ) (few : q ≤ 32) (r : WindowsInRange w q) (o : WindowsInOrder w) where
-  windows-outcome : (released : ℕ → ℕ) → Outcome q (InWindows w q) (arrival (windows w)) released (arrive (windows w) q (departures w released q))
+  windows-outcome : (released : ℕ → ℕ) → RunOn (windows w) q released (arrive (windows w) q (departures w released q))
   unfolding arrive
   windows-outcome released = go (departures w released q) (departures-are w o released q)
     where
-      go : (d : Departed) → Earliest w o released q d → Outcome q (InWindows w q) (arrival (windows w)) released (arrive (windows w) q d)
+      go : (d : Departed) → Earliest w o released q d → RunOn (windows w) q released (arrive (windows w) q d)
       go d (none-can f) = none-covers f
-      go d (earliest-are S len ok cov first) =
+      go d (earliest-are S W len len-W these ok cov first) =
           least-run len (table-length (λ m. arrival (windows w) (nth S) (suc m)) q)
-          (row-at (arrival (windows w) (nth S)) q) ok cov
+          (row-at (arrival (windows w) (nth S)) q) len-W (λ i x y. in-one-window w o (nth S i) (nth W i) (these i x y)) ok cov
           (λ S′ a c i x y. (first S′ a c i x y, arrival-mono (w .gap) (w .running) (nth S) S′ i (λ k u v. first S′ a c k u (omega arith))))
 
-  windows-rule : TimingRule q (InWindows w q) (arrival (windows w)) (timing (windows w) q)
+  windows-rule : RuleOf (windows w) q
   unfolding timing
   windows-rule =
       record {
@@ -91,26 +100,29 @@ module _ (w : Windows) (q : ℕ) (few : q ≤ 32) (r : WindowsInRange w q) (o : 
       early : (S : ℕ → ℕ) → InWindows w q S → (i : ℕ) → 1 ≤ i → i ≤ q → (S i ≤ 100000) × (w .running i ≤ 10000)
       early S a i p l =
           let x = a .in-window i p l in
-          (omega (arith, x .not-over, r .windows (x .window) (x .numbered .0) (x .numbered .1) .to), r .running i p l .1)
+          let h = x .within in
+          (omega (arith, h .not-over, r .windows (x .window) (h .numbered .0) (h .numbered .1) .to), r .running i p l .1)
 
 -- ---- the timetable form
 
 module _ (t : Timetable) (q : ℕ) (r : (i : ℕ) → 1 ≤ i → i ≤ q → TimesInRange t i) (o : TimesInOrder t q) where
-  timetable-outcome : (released : ℕ → ℕ) → Outcome q (OnTimetable t q) (arrival (timetable t)) released (on-timetable t q released)
+  timetable-outcome : (released : ℕ → ℕ) → RunOn (timetable t) q released (on-timetable t q released)
   unfolding on-timetable
   timetable-outcome released =
       go (each (λ i. leb (released i) (t .departure i)) q)
       (decides-each {P = λ i. released i ≤ t .departure i} (λ i. decides-le (released i) (t .departure i)) q)
     where
       go : (b : Bool) → Decides (Covers q released (t .departure)) b
-          → Outcome q (OnTimetable t q) (arrival (timetable t)) released (cond b (timed (row (t .departure) q) (row (t .arrival) q)) stopped)
+          → RunOn (timetable t) q released (cond b (timed (row (t .departure) q) (row (t .arrival) q) (replicate q 0)) stopped)
       go true d =
-          least-run {S = row (t .departure) q} {F = row (t .arrival) q} (table-length (λ m. t .departure (suc m)) q) (table-length (λ m. t .arrival (suc m)) q)
-          (row-at (t .arrival) q) (record { fixed = row-at (t .departure) q }) (λ i p l. omega (arith, row-at (t .departure) q i p l, d .sound tt i p l))
+          least-run {S = row (t .departure) q} {F = row (t .arrival) q} {W = replicate q 0}
+          (table-length (λ m. t .departure (suc m)) q) (table-length (λ m. t .arrival (suc m)) q) (row-at (t .arrival) q)
+          (length-replicate q 0) (λ i p l. getD-replicate {A = ℕ} q (i - 1) 0 0 (omega arith))
+          (record { fixed = row-at (t .departure) q }) (λ i p l. omega (arith, row-at (t .departure) q i p l, d .sound tt i p l))
           (λ S′ a c i p l. (omega (arith, row-at (t .departure) q i p l, a .fixed i p l), omega arith))
       go false d = none-covers (λ S a c. d .complete (λ i p l. omega (arith, a .fixed i p l, c i p l)))
 
-  timetable-rule : TimingRule q (OnTimetable t q) (arrival (timetable t)) (timing (timetable t) q)
+  timetable-rule : RuleOf (timetable t) q
   unfolding timing
   timetable-rule =
       record {
@@ -127,6 +139,6 @@ module _ (t : Timetable) (q : ℕ) (r : (i : ℕ) → 1 ≤ i → i ≤ q → Ti
       }
 
 -- EITHER FORM KEEPS THE RULE
-pub paths-rule : (f : Paths) (q : ℕ) → q ≤ 32 → PathsInRange f q → PathsInOrder f q → TimingRule q (Departures f q) (arrival f) (timing f q)
+pub paths-rule : (f : Paths) (q : ℕ) → q ≤ 32 → PathsInRange f q → PathsInOrder f q → RuleOf f q
 paths-rule (windows w) q few r o = windows-rule w q few r o
 paths-rule (timetable t) q few r o = timetable-rule t q r o

@@ -43,9 +43,10 @@ begun s a p R on = go (rounds s (R .made) (start s)) refl (R .shows .stands)
 
 -- a plan that was made arrives in time
 pub made-in-time : (s : Sheet) → Admitted s → (train : List ℕ) (t : Times)
-    → times s train ≡ timed (take (s .trains) (t .departure)) (take (s .trains) (t .arrival)) → UpTo last-arrival (s .trains) (t .arrival)
+    → times s train ≡ timed (take (s .trains) (t .departure)) (take (s .trains) (t .arrival)) (take (s .trains) (t .window))
+    → UpTo last-arrival (s .trains) (t .arrival)
 made-in-time s a train t e j l =
-    let within = timed-within s a (ready (s .release) train (s .orders)) _ _ e .2 (suc j) (omega arith) l in
+    let within = timed-within s a (ready (s .release) train (s .orders)) _ _ _ e .2 (suc j) (omega arith) l in
     let here : suc j - 1 ≡ j = omega arith in
     rw (here, getD-take (s .trains) (t .arrival) j 0 l) at within
 

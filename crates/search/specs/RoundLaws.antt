@@ -116,8 +116,8 @@ module _ (s : Sheet) (p r : Progress) (on : p .ended ≡ false) (counted : Count
       go false e = (goes-on e one-more (settled .0) refl, refl)
 
   -- OR IT GOES THROUGH ALL STEPS
-  pub round-made : plan .train ≡ loading s latest → times s (loading s latest) ≡ timed (plan .departure) (plan .arrival) → Graded p r z (F (s .trains))
-      → Settled s p r F → Makes s p r
+  pub round-made : plan .train ≡ loading s latest → times s (loading s latest) ≡ timed (plan .departure) (plan .arrival) (plan .window)
+      → Graded p r z (F (s .trains)) → Settled s p r F → Makes s p r
   unfolding depart
   round-made loads runs graded settled =
       makes (λ recorded.

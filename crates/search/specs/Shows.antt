@@ -28,7 +28,13 @@ abbrev pub shown-entry : Sheet → Progress → Entry
 shown-entry s p =
     record {
       pair = record { last = p .last; worst = p .limit };
-      plan = record { train = take (s .orders) (p .train); departure = take (s .trains) (p .departure); arrival = take (s .trains) (p .arrival) };
+      plan =
+          record {
+            train = take (s .orders) (p .train);
+            departure = take (s .trains) (p .departure);
+            arrival = take (s .trains) (p .arrival);
+            window = take (s .trains) (p .window);
+          };
     }
 
 -- what is recorded after the last round: its plan too where it was better, else nothing more

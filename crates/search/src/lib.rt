@@ -13,6 +13,7 @@ pub struct Progress {
     pub train: [u8; MOST_ORDERS],
     pub departure: [u32; MOST_TRAINS],
     pub arrival: [u32; MOST_TRAINS],
+    pub window: [u8; MOST_TRAINS],
     pub better: bool,
     pub limit: i64,
     pub last: u32,

@@ -32,6 +32,7 @@ pub fn round(mut progress: Progress, sheet: Sheet) -> Progress
         let due = sheet.due;
         let departure = timed.departure;
         let arrival = timed.arrival;
+        let window = timed.window;
         let worst = lateness::worst_of(n, weight, due, train, arrival);
         let last = columns::last_of(arrival, sheet.train_count);
         if worst < progress.limit {
@@ -45,6 +46,7 @@ pub fn round(mut progress: Progress, sheet: Sheet) -> Progress
         progress.train = train;
         progress.departure = departure;
         progress.arrival = arrival;
+        progress.window = window;
     }
     progress
 }

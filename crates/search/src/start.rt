@@ -24,6 +24,7 @@ pub fn start_search(sheet: Sheet) -> Progress
         train: [0; MOST_ORDERS],
         departure: no_time,
         arrival: no_time,
+        window: [0; MOST_TRAINS],
         better: false,
         limit: FIRST_LIMIT,
         last: 0,

@@ -9,6 +9,7 @@ use Rattle.numbers.specs.Counting.{at, nth}
 use Rattle.model.specs.Limits.{last-instant, train-counts}
 use Rattle.columns.specs.Columns.{UpTo}
 use Rattle.rounds.specs.Timing.{Departed, none, departed, Timed, stopped, timed}
+use Rattle.timing.specs.declared.Leaving.{Leaving}
 use Rattle.timing.specs.declared.Times.{Times}
 
 -- each of n orders is on a train
@@ -19,12 +20,12 @@ OnTrains n train = (j : ℕ) → j < n → (1 ≤ at train j) × (at train j ≤
 abbrev pub never : ℕ
 never = suc last-instant
 
--- the departures of q trains: none where the last of them never leaves
-abbrev pub departed-in : (q : ℕ) (departure : List ℕ) → Departed
-departed-in q departure = cond (ltb (nth departure q) never) (departed (take q departure)) none
+-- the departures of q trains with their windows: none where the last of them never leaves
+abbrev pub departed-in : (q : ℕ) → Leaving → Departed
+departed-in q r = cond (ltb (nth (r .departure) q) never) (departed (take q (r .departure)) (take q (r .window))) none
 
 abbrev pub timed-in : (q : ℕ) → Times → Timed
-timed-in q r = cond (r .runs) (timed (take q (r .departure)) (take q (r .arrival))) stopped
+timed-in q r = cond (r .runs) (timed (take q (r .departure)) (take q (r .arrival)) (take q (r .window))) stopped
 
 -- the first m windows, which end then, are over at instant t
 abbrev pub WindowsOver : (to : List ℕ) (t m : ℕ) → Type 0

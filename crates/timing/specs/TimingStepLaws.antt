@@ -13,6 +13,7 @@ use borrow.Author.Tests.{lt-ltb, le-ltb, eq-eqb, ne-eqb}
 use Rattle.numbers.specs.Counting.{at, nth, table, row, each}
 use Rattle.numbers.specs.DecidesLaws.{Decides, decided, decides-eq, decides-le, decides-lt, decides-and}
 use Rattle.numbers.specs.CountingLaws.{every-same-below, table-length, table-at}
+use Rattle.numbers.specs.ListLaws.{take-replicate}
 use Rattle.columns.specs.Columns.{UpTo}
 use Rattle.columns.specs.ColumnLaws.{nth-at}
 use Rattle.model.specs.Sheet.{Windows, Paths, windows, timetable}
@@ -27,6 +28,7 @@ use Rattle.rounds.specs.TimingLaws.{FirstWindow, all-over, first-is, first-wind
 use Rattle.rounds.specs.Timing.{ready, first-window, earliest, none, departed, leave, next-departure, departures}
 use Rattle.rounds.specs.Timing.{arrive, on-timetable, stopped, timed, timing}
 use Rattle.timing.specs.Timed.{never, departed-in, WindowsOver, HaveLeft}
+use Rattle.timing.specs.declared.Leaving.{Leaving}
 
 -- ---- the releases on the trains
 
@@ -128,13 +130,13 @@ module _ (w : Windows) (released : ℕ → ℕ) where
       go (inl s) ih = rw s at e
       go (inr s) ih = rw (ih (omega arith))
 
-  pub departures-first : (l : List ℕ) → departures w released 0 ≡ departed (take 0 l)
+  pub departures-first : departures w released 0 ≡ departed [] []
   unfolding departures
-  departures-first l = refl
+  departures-first = refl
 
-  module _ (l : List ℕ) (i t m : ℕ) (ahead : departures w released i ≡ departed (take i l))
+  module _ (l window : List ℕ) (i t m : ℕ) (ahead : departures w released i ≡ departed (take i l) (take i window))
       (et : t ≡ earliest (w .gap) (take i l) i (released (suc i))) (em : m ≡ first-window (w .to) t (w .count)) where
-    turn : departures w released (suc i) ≡ leave w t (take i l) m
+    turn : departures w released (suc i) ≡ leave w t (take i l) (take i window) m
     unfolding departures next-departure
     turn = rw (ahead, sym et, sym em)
 
@@ -144,11 +146,12 @@ module _ (w : Windows) (released : ℕ → ℕ) where
     departures-stop e q h = sym (departures-none q (suc i) h (turn ∙ rw e))
 
     -- train i + 1 leaves in window m
-    pub departures-next : ¬ (m ≡ 0) → i < length l → departures w released (i + 1) ≡ departed (take (i + 1) (set l i (max t (w .from m))))
+    pub departures-next : ¬ (m ≡ 0) → i < length l → i < length window
+        → departures w released (i + 1) ≡ departed (take (i + 1) (set l i (max t (w .from m)))) (take (i + 1) (set window i m))
     unfolding leave
-    departures-next e h = rw add-one (turn ∙ go m e ∙ ap departed (sym (take-suc-set l i (max t (w .from m)) h)))
+    departures-next e h h′ = rw (add-one, take-suc-set l i (max t (w .from m)) h, take-suc-set window i m h′) (turn ∙ go m e)
       where
-        go : (m : ℕ) → ¬ (m ≡ 0) → leave w t (take i l) m ≡ departed (take i l ++ (max t (w .from m) ∷ []))
+        go : (m : ℕ) → ¬ (m ≡ 0) → leave w t (take i l) (take i window) m ≡ departed (take i l ++ (max t (w .from m) ∷ [])) (take i window ++ (m ∷ []))
         go zero e = absurd (e refl)
         go (suc m) e = refl
 
@@ -188,12 +191,12 @@ module _ (i q m v : ℕ) where
       go (inl h) (inr k) = inr (h, omega arith)
       go (inl h) (inl k) = absurd (subst T e (to-come .complete (h, k)))
 
-module _ (l : List ℕ) (q : ℕ) where
-  pub all-left : 1 ≤ q → HaveLeft q l → departed-in q l ≡ departed (take q l)
-  all-left some (long, early, rest) = rw (lt-ltb (nth l q) never (omega (arith, early (q - 1) (omega arith))))
+module _ (r : Leaving) (q : ℕ) where
+  pub all-left : 1 ≤ q → HaveLeft q (r .departure) → departed-in q r ≡ departed (take q (r .departure)) (take q (r .window))
+  all-left some (long, early, rest) = rw (lt-ltb (nth (r .departure) q) never (omega (arith, early (q - 1) (omega arith))))
 
-  pub some-never : (i : ℕ) → i < q → q ≤ train-counts .most → HaveLeft i l → departed-in q l ≡ none
-  some-never i more few (long, early, rest) = rw (le-ltb (nth l q) never (omega (arith, rest (q - 1) (omega arith) (omega arith))))
+  pub some-never : (i : ℕ) → i < q → q ≤ train-counts .most → HaveLeft i (r .departure) → departed-in q r ≡ none
+  some-never i more few (long, early, rest) = rw (le-ltb (nth (r .departure) q) never (omega (arith, rest (q - 1) (omega arith) (omega arith))))
 
 -- ---- arrivals
 
@@ -278,20 +281,25 @@ module _ (f g : ℕ → ℕ) where
   timing-same (timetable t) q h =
       rw (every-same-below (λ m. leb (f (suc m)) (t .departure (suc m))) (λ m. leb (g (suc m)) (t .departure (suc m))) q (λ j l. rw (h j l)))
 
-pub windows-timed : (w : Windows) (released : ℕ → ℕ) (q : ℕ) (leaves : Bool) (departure arrival : List ℕ)
-    → cond leaves (departed (take q departure)) none ≡ departures w released q → take q arrival ≡ row (arrivalBehind (w .gap) (w .running) (nth departure)) q
-    → cond leaves (timed (take q departure) (take q arrival)) stopped ≡ timing (windows w) q released
+pub windows-timed : (w : Windows) (released : ℕ → ℕ) (q : ℕ) (leaves : Bool) (departure arrival window : List ℕ)
+    → cond leaves (departed (take q departure) (take q window)) none ≡ departures w released q
+    → take q arrival ≡ row (arrivalBehind (w .gap) (w .running) (nth departure)) q
+    → cond leaves (timed (take q departure) (take q arrival) (take q window)) stopped ≡ timing (windows w) q released
 unfolding timing arrive
-windows-timed w released q true departure arrival e f = rw (← e) (ap (timed (take q departure)) (f ∙ row-arrivals (w .gap) (w .running) departure q))
-windows-timed w released q false departure arrival e f = rw (← e)
+windows-timed w released q true departure arrival window e f =
+    rw (← e) (ap (λ (F : List ℕ). timed (take q departure) F (take q window)) (f ∙ row-arrivals (w .gap) (w .running) departure q))
+windows-timed w released q false departure arrival window e f = rw (← e)
 
 module _ (departure arrival : List ℕ) (q : ℕ) where
-  pub fixed-timed : (b : Bool) → q ≤ length departure → q ≤ length arrival
-      → cond b (timed (take q departure) (take q arrival)) stopped ≡ cond b (timed (row (nth departure) q) (row (nth arrival) q)) stopped
-  fixed-timed b few few′ = rw (row-nth departure q few, row-nth arrival q few′)
+  -- a timetable's windows are 0
+  pub fixed-timed : (b : Bool) → q ≤ train-counts .most → length departure ≡ train-counts .most → length arrival ≡ train-counts .most
+      → cond b (timed (take q departure) (take q arrival) (take q (replicate (train-counts .most) 0))) stopped
+      ≡ cond b (timed (row (nth departure) q) (row (nth arrival) q) (replicate q 0)) stopped
+  fixed-timed b few long long′ =
+      rw (row-nth departure q (omega arith), row-nth arrival q (omega arith), take-replicate {A = ℕ} q (train-counts .most) 0 few)
 
   pub timetable-timed : (released : ℕ → ℕ) (b : Bool) → b ≡ each (λ i. leb (released i) (nth departure i)) q
-      → cond b (timed (row (nth departure) q) (row (nth arrival) q)) stopped
+      → cond b (timed (row (nth departure) q) (row (nth arrival) q) (replicate q 0)) stopped
       ≡ timing (timetable (record { departure = nth departure; arrival = nth arrival })) q released
   unfolding timing on-timetable
   timetable-timed released b e = rw e

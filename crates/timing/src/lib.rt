@@ -1,4 +1,4 @@
-// Step 2 of a round: the departures and arrivals of the trains. Train i stands at place i - 1 of every list.
+// Step 2 of a round: the departures, arrivals and windows of the trains. Train i stands at place i - 1 of every list.
 use columns::last_of;
 use columns::of_train;
 use model::Form;
@@ -23,11 +23,18 @@ ghost use Rattle.timing.specs.Timed.{OnTrains, never, departed-in, timed
 // The departure of a train that finds no window: after every instant.
 const NEVER: u32 = LAST_INSTANT + 1;
 
-// The departures and arrivals of the trains; `runs` is false where step 2 stops the round.
+// The departures of the trains in the window form, and the windows, from 1, in which they leave.
+struct Leaving {
+    departure: [u32; MOST_TRAINS],
+    window: [u8; MOST_TRAINS],
+}
+
+// The departures, arrivals and windows of the trains; `runs` is false where step 2 stops the round. A timetable's windows are 0.
 pub struct Times {
     pub runs: bool,
     pub departure: [u32; MOST_TRAINS],
     pub arrival: [u32; MOST_TRAINS],
+    pub window: [u8; MOST_TRAINS],
 }
 
 // The later of two instants.
@@ -55,16 +62,17 @@ fn releases(n: usize, release: [u32; MOST_ORDERS], train: [u8; MOST_ORDERS]) -> 
     released
 }
 
-// Each train's departure in the window form: the least instant in a window that it may leave at, or NEVER for it and all behind it. Train i + 1 awaits
-// instant t. A window that is over for one train is over for those behind it, so each turn passes a window or lets a train leave.
-fn find_departures(sheet: Sheet, released: [u32; MOST_TRAINS]) -> [u32; MOST_TRAINS]
+// Each train's departure in the window form: the least instant in a window that it may leave at, with that window, or NEVER for it and all behind it.
+// Train i + 1 awaits instant t. A window that is over for one train is over for those behind it, so each turn passes a window or lets a train leave.
+fn find_departures(sheet: Sheet, released: [u32; MOST_TRAINS]) -> Leaving
     requires { ⌜ Admitted (sheetOf sheet) × (sheet .form ≡ Form.Windows) ⌝ }
     ensures is { λ r. ⌜ departed-in (sheet .«train_count») r ≡ departures-of (windowsOf sheet) (nth released) (sheet .«train_count») ⌝ }
-    ensures in_time { λ r. ⌜ UpTo never (train-counts .most) r ⌝ }
+    ensures in_time { λ r. ⌜ UpTo never (train-counts .most) (r .departure) ⌝ }
 {
     let from = sheet.window_from;
     let to = sheet.window_to;
     let mut departure = [NEVER; MOST_TRAINS];
+    let mut window = [0u8; MOST_TRAINS];
     let mut t: u32 = 0;
     let mut i: usize = 0;
     let mut m: usize = 0;
@@ -76,10 +84,11 @@ fn find_departures(sheet: Sheet, released: [u32; MOST_TRAINS]) -> [u32; MOST_TRA
         }
         t = later(t, from[m]);
         departure[i] = t;
+        window[i] = (m + 1) as u8;
         t += sheet.gap;
         i += 1;
     }
-    departure
+    Leaving { departure, window }
 }
 
 // The arrivals of trains 1 to i, each found from the arrival of the train ahead, back to the first train.
@@ -136,23 +145,28 @@ pub fn time_trains(sheet: Sheet, train: [u8; MOST_ORDERS]) -> Times
     let released = releases(sheet.order_count, release, train);
     match form {
         Form::Windows => {
-            let departure = find_departures(sheet, released);
+            let leaving = find_departures(sheet, released);
+            let departure = leaving.departure;
+            let window = leaving.window;
             let arrival = find_arrivals(sheet, departure);
             let runs = last_of(departure, sheet.train_count) < NEVER;
             return Times {
                 runs,
                 departure,
                 arrival,
+                window,
             };
         }
         Form::Timetable => {
             let departure = sheet.departure;
             let runs = keeps_timetable(sheet.train_count, departure, released);
             let arrival = sheet.arrival;
+            let window = [0u8; MOST_TRAINS];
             return Times {
                 runs,
                 departure,
                 arrival,
+                window,
             };
         }
     }

@@ -2,14 +2,17 @@
 //! the first elements are.
 
 use native::cases::{sheet_of, CASE_A};
-use native::plan::{Pair, Times};
+use native::draw::big;
+use native::limits::MOST_TRAINS;
+use native::plan::Pair;
 use native::planner::{choose_in, list_in, Counts};
 use native::refusal::*;
-use native::sheet::Sheet;
+use native::rng::Rng;
+use native::sheet::{Sheet, FORMS};
 
 const GUARD_PAIR: Pair = Pair { arrival: 7, lateness: 7 };
 const GUARD_TRAIN: u8 = 77;
-const GUARD_TIMES: Times = Times { departure: 7, arrival: 7 };
+const GUARD_TIME: u32 = 777;
 
 /// Case a with a place more than there are orders.
 fn unequal() -> Sheet {
@@ -32,8 +35,8 @@ fn list_guarded(sheet: &Sheet, length: usize) -> (Result<Counts, Refusal>, Vec<P
 }
 
 /// Chooses with areas of these lengths, filled with guards.
-fn choose_guarded(sheet: &Sheet, wish: u32, lengths: [usize; 2]) -> (Result<Pair, Refusal>, Vec<u8>, Vec<Times>) {
-    let (mut train_of_order, mut times) = (vec![GUARD_TRAIN; lengths[0]], vec![GUARD_TIMES; lengths[1]]);
+fn choose_guarded(sheet: &Sheet, wish: u32, lengths: [usize; 2]) -> (Result<Pair, Refusal>, Vec<u8>, Vec<u32>) {
+    let (mut train_of_order, mut times) = (vec![GUARD_TRAIN; lengths[0]], vec![GUARD_TIME; lengths[1]]);
     (choose_in(sheet, wish, &mut train_of_order, &mut times), train_of_order, times)
 }
 
@@ -51,21 +54,24 @@ fn refused_listing() {
     }
 }
 
+/// Three orders and two trains: three numbers and six are long enough, one fewer of either is not.
 #[test]
 fn refused_choosing() {
     for (sheet, wish, lengths, number) in [
         (unequal(), 0, [0, 0], PLACES_DIFFER),
-        (sheet_of(CASE_A), u32::MAX, [2, 2], AREA_TOO_SHORT),
-        (sheet_of(CASE_A), u32::MAX, [3, 1], AREA_TOO_SHORT),
-        (sheet_of(CASE_A), 0, [2, 1], AREA_TOO_SHORT),
-        (late(), 0, [2, 2], AREA_TOO_SHORT),
-        (late(), 0, [3, 1], AREA_TOO_SHORT),
-        (late(), 0, [3, 2], NO_SCHEDULE),
-        (late(), u32::MAX, [3, 2], NO_SCHEDULE),
-        (sheet_of(CASE_A), 0, [3, 2], WISH_TOO_EARLY),
-        (sheet_of(CASE_A), 109, [3, 2], WISH_TOO_EARLY),
+        (sheet_of(CASE_A), u32::MAX, [2, 6], AREA_TOO_SHORT),
+        (sheet_of(CASE_A), u32::MAX, [3, 5], AREA_TOO_SHORT),
+        (sheet_of(CASE_A), u32::MAX, [3, 4], AREA_TOO_SHORT),
+        (sheet_of(CASE_A), u32::MAX, [3, 0], AREA_TOO_SHORT),
+        (sheet_of(CASE_A), 0, [2, 5], AREA_TOO_SHORT),
+        (late(), 0, [2, 6], AREA_TOO_SHORT),
+        (late(), 0, [3, 5], AREA_TOO_SHORT),
+        (late(), 0, [3, 6], NO_SCHEDULE),
+        (late(), u32::MAX, [3, 6], NO_SCHEDULE),
+        (sheet_of(CASE_A), 0, [3, 6], WISH_TOO_EARLY),
+        (sheet_of(CASE_A), 109, [3, 6], WISH_TOO_EARLY),
     ] {
-        let refused = (Err(Refusal::of_all(number)), vec![GUARD_TRAIN; lengths[0]], vec![GUARD_TIMES; lengths[1]]);
+        let refused = (Err(Refusal::of_all(number)), vec![GUARD_TRAIN; lengths[0]], vec![GUARD_TIME; lengths[1]]);
         assert_eq!(choose_guarded(&sheet, wish, lengths), refused, "{wish} {lengths:?}");
     }
 }
@@ -77,9 +83,25 @@ fn only_first_elements_written() {
     assert_eq!(counts, Ok(Counts { pairs: 2, rounds: 2 }));
     assert_eq!(pairs[..2], [Pair { arrival: 110, lateness: 150 }, Pair { arrival: 130, lateness: 70 }]);
     assert_eq!(pairs[2..], [GUARD_PAIR; 6]);
-    let (pair, train_of_order, times) = choose_guarded(&good, 129, [5, 4]);
+    let (pair, train_of_order, times) = choose_guarded(&good, 129, [5, 8]);
     assert_eq!(pair, Ok(Pair { arrival: 110, lateness: 150 }));
     assert_eq!(train_of_order, [1, 2, 2, GUARD_TRAIN, GUARD_TRAIN]);
-    assert_eq!(times[..2], [Times { departure: 0, arrival: 30 }, Times { departure: 90, arrival: 110 }]);
-    assert_eq!(times[2..], [GUARD_TIMES; 2]);
+    assert_eq!(times, [0, 30, 1, 90, 110, 1, GUARD_TIME, GUARD_TIME]);
+    let just_long_enough = (Ok(Pair { arrival: 130, lateness: 70 }), vec![2, 1, 2], vec![40, 70, 1, 100, 130, 1]);
+    assert_eq!(choose_guarded(&good, 130, [3, 6]), just_long_enough);
+}
+
+/// Choosing asks for three numbers of times a train, in either form.
+#[test]
+fn three_numbers_a_train() {
+    let mut rng = Rng::new(8);
+    for q in 1..=MOST_TRAINS {
+        for form in FORMS {
+            let sheet = big(&mut rng, form, MOST_TRAINS as u32, q);
+            let too_short = |length| {
+                choose_guarded(&sheet, u32::MAX, [MOST_TRAINS, length]).0 == Err(Refusal::of_all(AREA_TOO_SHORT))
+            };
+            assert!(too_short(3 * q - 1) && !too_short(3 * q), "{sheet:?}");
+        }
+    }
 }

@@ -8,3 +8,4 @@ mod printing;
 mod reading;
 mod rounds;
 mod schedules;
+mod windows;

@@ -5,15 +5,15 @@ use native::stored::{stored_sheets, LEAST_STORED};
 #[test]
 fn cases_a_to_i() {
     let plans = [
-        "P,110,150\nP,130,70\nD,1,40,70\nD,2,100,130\nL,A,2\nL,B,1\nL,C,2\nR,2\n",
-        "P,110,50\nD,1,40,70\nD,2,90,110\nL,A,2\nL,B,1\nL,C,2\nR,2\n",
-        "P,110,150\nP,170,110\nD,1,40,70\nD,2,150,170\nL,A,2\nL,B,1\nL,C,2\nR,2\n",
+        "P,110,150\nP,130,70\nD,1,40,70,1\nD,2,100,130,1\nL,A,2\nL,B,1\nL,C,2\nR,2\n",
+        "P,110,50\nD,1,40,70,1\nD,2,90,110,1\nL,A,2\nL,B,1\nL,C,2\nR,2\n",
+        "P,110,150\nP,170,110\nD,1,40,70,1\nD,2,150,170,2\nL,A,2\nL,B,1\nL,C,2\nR,2\n",
         "E,8,0\n",
-        "P,1,1\nD,1,0,1\nL,A,1\nR,1\n",
+        "P,1,1\nD,1,0,1,1\nL,A,1\nR,1\n",
         "E,8,0\n",
-        "P,1,-1\nD,1,0,1\nL,A,1\nR,1\n",
-        "P,120,60\nD,1,50,80\nD,2,95,120\nL,A,2\nL,B,1\nL,C,2\nR,2\n",
-        "P,120,180\nD,1,39,80\nD,2,95,120\nL,A,1\nL,B,2\nL,C,2\nR,2\n",
+        "P,1,-1\nD,1,0,1,1\nL,A,1\nR,1\n",
+        "P,120,60\nD,1,50,80,0\nD,2,95,120,0\nL,A,2\nL,B,1\nL,C,2\nR,2\n",
+        "P,120,180\nD,1,39,80,0\nD,2,95,120,0\nL,A,1\nL,B,2\nL,C,2\nR,2\n",
     ];
     for (text, plan) in cases().iter().zip(plans) {
         assert_eq!(print(text.as_bytes()), plan, "{text}");

@@ -2,7 +2,7 @@
 
 use binding::areas::{PairsArea, PlanAreas};
 use binding::exported::ExportedSheet;
-use native::plan::{Listing, Pair, Times};
+use native::plan::{Listing, Pair};
 use native::planner::{choose_in, list, list_in};
 use native::sheet::Sheet;
 use std::hint::black_box;
@@ -64,8 +64,9 @@ impl Bench<'_> {
     pub fn time_choosing(&self, pair: Pair) -> Timed {
         let Bench { sheet, exported, repeats, .. } = self;
         let (n, q) = sheet.size();
-        let mut areas = PlanAreas::of_lengths(PlanAreas::least(n, q));
-        let (mut train_of_order, mut times) = (vec![0; n], vec![Times::default(); q]);
+        let lengths = PlanAreas::least(n, q);
+        let mut areas = PlanAreas::of_lengths(lengths);
+        let (mut train_of_order, mut times) = (vec![0; lengths[0]], vec![0; lengths[1]]);
         let wish = pair.arrival;
         let reply = exported.choose_in(wish, &mut areas);
         assert_eq!((reply.last, reply.worst), (pair.arrival, pair.lateness), "{sheet:?}");

@@ -9,19 +9,22 @@ returns : tie.Need-returns
 unfolding time-line
 returns c =
     let end = c .before .before in
-    let arrival = end .before .before .before .before in
+    let window = end .before .before .before .before in
+    let arrival = window .before .before .before .before in
     let departure = arrival .before .before .before .before in
     let train = departure .before .before .before .before in
     let kind = train .before .before .before .before in
     pass-then _ _ _ _
     (pass-then _ _ _ _
+    (pass-then _ _ _ _
     (pass-then _ _ _ _ (pass-then _ _ _ _ (kind .put .ensures) (train .number-field .ensures)) (departure .number-field2 .ensures))
     (arrival .number-field3 .ensures))
+    (window .number-field4 .ensures))
     (end .put2 .ensures)
 
 pub time-line-spec : {M : Type 1} → statement M
 time-line-spec =
     tie.close
     (tie.spec
-    (λ c κs. search needs) (λ c κs. search needs) (λ c κs. search needs) (λ c κs. search needs) (λ c κs. search needs) (λ c. search needs)
-    returns)
+    (λ c κs. search needs) (λ c κs. search needs) (λ c κs. search needs) (λ c κs. search needs) (λ c κs. search needs) (λ c κs. search needs)
+    (λ c. search needs) returns)

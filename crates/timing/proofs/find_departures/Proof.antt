@@ -1,11 +1,12 @@
--- `timing::find_departures` meets its contract: the loop's invariant is that trains 1 to i have left, and that the first m windows are over at the instant
--- that the next train awaits. Assumes nothing.
+-- `timing::find_departures` meets its contract: the loop's invariant is that trains 1 to i have left, each in the window told, and that the first m windows
+-- are over at the instant that the next train awaits. Assumes nothing.
 use borrow.Author.Needs.{needs}
 use mathlib.Core.Path.{_≡_, refl, sym, _∙_}
 use mathlib.Core.Logic.{_⊎_, inl, inr}
 use Prim.Native.Nat.{ℕ, suc, _≤_, _<_, _+_, _-_, max}
 use native.Mathlib.Omega.{arith}
-use lib.ListN.{take, replicate}
+use native.Mathlib.Numerals.{add-one}
+use lib.ListN.{length, take, replicate, length-set}
 use Rattle.numbers.specs.Counting.{at, nth}
 use Rattle.model.specs.Memory.{windowsOf}
 use Rattle.model.specs.MemoryLaws.{few-windows, windows-in-range}
@@ -16,19 +17,20 @@ use Rattle.timing.specs.Timed.{never, departed-in, WindowsOver, HaveLeft
 use Rattle.timing.specs.TimingStepLaws.{over-more, no-window, window-first, earliest-first, earliest-behind}
 use Rattle.timing.specs.TimingStepLaws.{departures-first, departures-stop, departures-next}
 use Rattle.timing.specs.TimingStepLaws.{left-none, left-more, left-bound, all-left, some-never, both-to-come, one-at-end}
+use Rattle.timing.specs.declared.Leaving.{Leaving}
 use Rattle.timing.proofs.find_departures.Statement.{statement}
 use Rattle.timing.proofs.find_departures.Tie as tie
 
 abbrev Inv-loop : tie.InvT-loop
-Inv-loop sheet released from to departure₀ t₀ i₀ m₀ departure t i m =
-    ((i ≤ sheet .«train_count») × (m ≤ sheet .«window_count»))
+Inv-loop sheet released from to departure₀ window₀ t₀ i₀ m₀ departure window t i m =
+    ((i ≤ sheet .«train_count») × (m ≤ sheet .«window_count») × (length window ≡ 32))
     × HaveLeft i departure
-    × (departures (windowsOf sheet) (nth released) i ≡ departed (take i departure))
+    × (departures (windowsOf sheet) (nth released) i ≡ departed (take i departure) (take i window))
     × (max t (at released i) ≡ earliest (sheet .gap) (take i departure) i (at released i))
     × WindowsOver to (max t (at released i)) m
 
 abbrev μ-loop : tie.MeasureT-loop
-μ-loop sheet released from to departure₀ t₀ i₀ m₀ departure t i m = sheet .«train_count» - i + (sheet .«window_count» - m)
+μ-loop sheet released from to departure₀ window₀ t₀ i₀ m₀ departure window t i m = sheet .«train_count» - i + (sheet .«window_count» - m)
 
 -- the entry from the loop's head, and the head from within its body
 abbrev entry : tie.At-loop Inv-loop μ-loop → tie.Start Inv-loop μ-loop
@@ -68,7 +70,7 @@ loop-again c =
     let inv = l .loop .inv in
     let e = c .before .later .ensures in
     let same : max (c .before .later .result) (at (a .t2) (l .loop .i)) ≡ max (l .loop .t) (at (a .t2) (l .loop .i)) = omega (arith, e) in (
-      (inv .0 .0, omega (arith, more d .1)),
+      (inv .0 .0, omega (arith, more d .1), inv .0 .2),
       inv .1,
       inv .2,
       rw same (inv .3),
@@ -98,18 +100,22 @@ loop-again-2 c =
     let t = at-window .later in
     let v = c .before .later2 .result in
     let few = train-place d in
-    let e : v ≡ max (t .result) (nth (w .«window_from») (suc m)) = omega (arith, c .before .later2 .ensures, nth-at (w .«window_from») m) in
-    let window : suc m ≡ first-window (nth (w .«window_to»)) (t .result) (w .«window_count») =
-    window-first (w .«window_to») (t .result) (w .«window_count») m (more d .1) (λ k h. omega (arith, t .ensures, inv .4 k h))
+    let e : v ≡ max (t .result) (nth (w .«window_from») (m + 1)) = rw (add-one m) (omega (arith, c .before .later2 .ensures, nth-at (w .«window_from») m)) in
+    let window : m + 1 ≡ first-window (nth (w .«window_to»)) (t .result) (w .«window_count») =
+    add-one m ∙ window-first (w .«window_to») (t .result) (w .«window_count») m (more d .1) (λ k h. omega (arith, t .ensures, inv .4 k h))
     (omega (arith, c .before .before .if2 .left)) in
-    let next = departures-next (windowsOf w) (nth (s .args .t2)) (l .loop .departure) i (t .result) (suc m) (inv .2) (awaited l (t .result) (t .ensures)) window
-    (λ z. omega arith) (omega (arith, inv .1 .0, few)) in (
-      (omega (arith, more d .0), inv .0 .1),
+    let next = departures-next (windowsOf w) (nth (s .args .t2)) (l .loop .departure) (l .loop .window) i (t .result) (m + 1) (inv .2)
+    (awaited l (t .result) (t .ensures)) window (λ z. omega arith) (omega (arith, inv .1 .0, few)) (omega (arith, inv .0 .2, few)) in (
+      (omega (arith, more d .0), inv .0 .1, length-set (l .loop .window) _ _ ∙ inv .0 .2),
       left-more (l .loop .departure) i v few (left (c .before)) (inv .1),
       rw e next,
       earliest-behind (w .gap) (l .loop .departure) i v _ (omega (arith, inv .1 .0, few)),
       λ k h. omega (arith, inv .4 k h, t .ensures, c .before .later2 .ensures),
     )
+
+-- what is found by then
+abbrev leaving : tie.At-loop Inv-loop μ-loop → Leaving
+leaving l = record { departure = l .loop .departure; window = l .loop .window }
 
 returns : tie.Need-returns Inv-loop μ-loop
 returns c =
@@ -121,17 +127,17 @@ returns c =
     ended : (l : tie.At-loop Inv-loop μ-loop) → let w = entry l .args .sheet in
         let q = w .«train_count» in
         (l .loop .i ≡ q) ⊎ ((l .loop .i < q) × (l .loop .m ≡ w .«window_count»))
-        → departed-in q (l .loop .departure) ≡ departures (windowsOf w) (nth (entry l .args .t2)) q
+        → departed-in q (leaving l) ≡ departures (windowsOf w) (nth (entry l .args .t2)) q
     ended l (inl e) =
         let inv = l .loop .inv in
-        all-left (l .loop .departure) _ (entry l .pre .0 .complete .trains) (rw e at (inv .1)) ∙ sym (rw e at (inv .2))
+        all-left (leaving l) _ (entry l .pre .0 .complete .trains) (rw e at (inv .1)) ∙ sym (rw e at (inv .2))
     ended l (inr (h, e)) =
         let a = entry l .args in
         let w = a .sheet in
         let inv = l .loop .inv in
         let t = max (l .loop .t) (at (a .t2) (l .loop .i)) in
-        some-never (l .loop .departure) _ (l .loop .i) h (trains (entry l)) (inv .1)
-        ∙ departures-stop (windowsOf w) (nth (a .t2)) (l .loop .departure) (l .loop .i) t 0 (inv .2) (awaited l t refl)
+        some-never (leaving l) _ (l .loop .i) h (trains (entry l)) (inv .1)
+        ∙ departures-stop (windowsOf w) (nth (a .t2)) (l .loop .departure) (l .loop .window) (l .loop .i) t 0 (inv .2) (awaited l t refl)
         (no-window (w .«window_to») t (w .«window_count») (rw e at (inv .4))) refl (w .«train_count») h
 
 pub find-departures-spec : {M : Type 1} → statement M
@@ -140,9 +146,9 @@ find-departures-spec =
     (tie.spec
     Inv-loop μ-loop
     (λ c. (
-      (omega arith, omega arith),
+      (omega arith, omega arith, refl),
       left-none,
-      departures-first _ _ (replicate 32 never),
+      departures-first _ _,
       earliest-first _ (replicate 32 never) _,
       λ k l. absurd (omega arith),
     ))
@@ -151,6 +157,8 @@ find-departures-spec =
     (λ c. omega (arith, more (c .before .before) .1)) loop-again
     (λ c. omega (arith, window-place (c .before .before))) (λ c. window-place (c .before .before)) (λ c κs. search needs)
     (λ c. omega (arith, train-place (c .before .before .before))) (λ c. train-place (c .before .before .before))
+    (λ c. omega (arith, window-place (c .before .before .before))) (λ c. omega (arith, window-place (c .before .before .before)))
+    (λ c. train-place (c .before .before .before))
     (λ c. omega (arith, left (c .before), in-range (entry (head (c .before .before .before .before))) .gap .1))
     (λ c. omega (arith, train-place (c .before .before .before .before))) (λ c. omega (arith, more (c .before .before .before .before) .0))
     loop-again-2 returns)

@@ -23,6 +23,7 @@ pub fn store_all(store: &mut Store) {
     departures(store);
     limit_reached_or_not(store);
     ties_and_names(store);
+    windows_of_departures(store);
 }
 
 fn departures(store: &mut Store) {
@@ -49,8 +50,8 @@ fn departures(store: &mut Store) {
 /// Two fixed trains; B's lateness on train 2 is the limit, and A's due time says if A may take its place.
 fn limit_reached_or_not(store: &mut Store) {
     let swap = |a: &str, b: &str| format!("X,1,10,60\nX,1,20,66\nO,A,0,{a}\nO,B,0,{b}\n");
-    let swapped = |worst: i64| format!("P,66,{worst}\nD,1,10,60\nD,2,20,66\nL,A,2\nL,B,1\nR,2\n");
-    let kept = |worst: i64| format!("P,66,{worst}\nD,1,10,60\nD,2,20,66\nL,A,1\nL,B,2\nR,1\n");
+    let swapped = |worst: i64| format!("P,66,{worst}\nD,1,10,60,0\nD,2,20,66,0\nL,A,2\nL,B,1\nR,2\n");
+    let kept = |worst: i64| format!("P,66,{worst}\nD,1,10,60,0\nD,2,20,66,0\nL,A,1\nL,B,2\nR,1\n");
     store.printed("limit-50-weight-3-late-16", swap("50,3", "16,1").as_bytes(), &swapped(48));
     store.printed("limit-50-weight-3-late-17", swap("49,3", "16,1").as_bytes(), &kept(50));
     store.printed("limit-minus-50-weight-3-early-17", swap("83,3", "116,1").as_bytes(), &swapped(-51));
@@ -69,4 +70,25 @@ fn ties_and_names(store: &mut Store) {
     );
     let orders = "O,-,0,90,1\nO,0,5,1,2\nO,ABCDEFGHIJKL,1,2,3\nO,MNOPQRSTUVWX,4,5,6\nO,YZ0123456789,7,8,9\n";
     store.planned("names-of-all-bytes", &format!("G,5\nW,0,100\nT,2,10\nT,3,10\n{orders}"));
+}
+
+/// The orders ride in turn, one a train.
+fn windows_of_departures(store: &mut Store) {
+    store.printed(
+        "first-and-last-minutes-of-later-windows",
+        b"G,10\nW,0,20\nW,40,55\nW,90,100\nT,1,9\nT,1,9\nT,1,9\nT,1,9\nT,1,9\n\
+          O,A,20,30,1\nO,B,25,50,1\nO,C,55,65,1\nO,D,60,100,1\nO,E,100,110,1\n",
+        "P,109,-1\nD,1,20,29,1\nD,2,40,49,2\nD,3,55,64,2\nD,4,90,99,3\nD,5,100,109,3\n\
+         L,A,1\nL,B,2\nL,C,3\nL,D,4\nL,E,5\nR,1\n",
+    );
+    store.printed(
+        "windows-of-one-minute-that-touch",
+        b"G,1\nW,0,3\nW,4,4\nW,5,5\nW,6,9\nW,10,10\nW,12,12\nT,1,2\nT,1,2\nT,1,2\nT,1,2\nT,1,2\nT,1,2\n\
+          O,A,3,0,1\nO,B,3,0,1\nO,C,3,0,1\nO,D,3,0,1\nO,E,10,0,1\nO,F,10,0,1\n",
+        "P,14,14\nD,1,3,5,1\nD,2,4,6,2\nD,3,5,7,3\nD,4,6,8,4\nD,5,10,12,5\nD,6,12,14,6\n\
+         L,A,1\nL,B,2\nL,C,3\nL,D,4\nL,E,5\nL,F,6\nR,1\n",
+    );
+    // The last train leaves at the last minute of window 64.
+    let orders: String = (1..=32).map(|j| format!("O,N{j},{},{},1\n", 19 * j + 27, 18 * j)).collect();
+    store.planned("32-trains-by-64-windows", &format!("G,1\n{}{}{orders}", window_lines(64), train_lines(32)));
 }

@@ -1,6 +1,8 @@
-//! Writes the stored test sheets: `make_data FOLDER [FOLDER OF GIVEN SHEETS]`.
-//! NNN-name.sheet is the text, NNN-name.plan what the independent implementation prints.
-//! Refusals are written here by hand and compared; given sheets keep their given plans.
+//! Writes the stored test sheets: `make_data FOLDER [FOLDER OF GIVEN SHEETS]`, where the first folder is `crates/stored`.
+//! In its data/, NNN-name.sheet is the text, NNN-name.plan what the independent implementation prints, and `list` names every sheet; beside
+//! it, `stdout` is what the program `stored` prints.
+//! Refusals are written here by hand and compared; given sheets keep their given plans, and get the windows. Where no folder of given sheets is
+//! named, those that were stored before stay.
 
 mod by_hand;
 mod bytes;
@@ -27,8 +29,9 @@ fn main() {
     drawn::store_hard(&mut store);
     bytes::store_all(&mut store);
     drawn::store_any(&mut store);
-    if let Some(folder) = args.get(1) {
-        store.given(Path::new(folder));
+    match args.get(1) {
+        Some(folder) => store.given(Path::new(folder)),
+        None => store.given_before(),
     }
-    println!("{} sheets", store.written());
+    println!("{} sheets", store.finish());
 }

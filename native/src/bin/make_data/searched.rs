@@ -2,6 +2,7 @@
 
 use crate::store::Store;
 use native::draw::small;
+use native::plan::Entry;
 use native::rng::Rng;
 use native::sheet::{Form, Sheet};
 use native::trace::{trace, Outcome, Trace};
@@ -49,6 +50,12 @@ const TIMETABLE: [Wanted; 4] = [
     ("ends-early-after-five-rounds", |t| t.outcomes.len() >= 5 && t.entries[0].pair.lateness < 0),
 ];
 
+/// Four pairs, and of each plan at least one train leaves by another window than in the plan before.
+const OTHER_WINDOWS: Wanted = ("other-windows-in-each-of-four-pairs", |t| {
+    let windows = |entry: &Entry| entry.plan.times.iter().map(|train| train.window).collect::<Vec<u32>>();
+    t.entries.len() == 4 && t.entries.windows(2).all(|next| windows(&next[0]) != windows(&next[1]))
+});
+
 pub fn store_all(store: &mut Store) {
     let mut rng = Rng::new(11);
     store.group(430);
@@ -58,6 +65,8 @@ pub fn store_all(store: &mut Store) {
     for (name, wanted) in TIMETABLE {
         store.planned_sheet(&format!("{name}-timetable"), &find_showing(&mut rng, Form::Timetable, wanted));
     }
+    let (name, wanted) = OTHER_WINDOWS;
+    store.planned_sheet(name, &find_showing(&mut rng, Form::Windows, wanted));
 }
 
 fn find_showing(rng: &mut Rng, form: Form, wanted: fn(&Trace) -> bool) -> Sheet {

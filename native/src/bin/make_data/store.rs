@@ -1,4 +1,4 @@
-//! The folder of stored sheets, as it is written.
+//! The stored sheets, as they are written.
 
 use native::print::print;
 use native::sheet::Sheet;
@@ -7,20 +7,34 @@ use native::write::{numbered_name, text_of};
 use std::fs;
 use std::path::{Path, PathBuf};
 
+/// The number of the first given sheet.
+const FIRST_GIVEN: u32 = 900;
+
 pub struct Store {
     folder: PathBuf,
     number: u32,
-    written: u32,
+    /// The names of the sheets.
+    list: String,
+    /// What the program `stored` prints: each name with its plan.
+    stdout: String,
 }
 
 impl Store {
     pub fn new(folder: &str) -> Store {
-        fs::create_dir_all(folder).expect("a folder to write to");
-        Store { folder: folder.into(), number: 1, written: 0 }
+        let folder = PathBuf::from(folder);
+        fs::create_dir_all(folder.join("data")).expect("a folder to write to");
+        Store { folder, number: 1, list: String::new(), stdout: String::new() }
     }
 
-    pub fn written(&self) -> u32 {
-        self.written
+    /// Writes what is told of all sheets, and gives their number.
+    pub fn finish(self) -> usize {
+        self.write("data/list", self.list.as_bytes());
+        self.write("stdout", self.stdout.as_bytes());
+        self.list.lines().count()
+    }
+
+    fn write(&self, file: &str, content: &[u8]) {
+        fs::write(self.folder.join(file), content).expect("a folder to write to");
     }
 
     /// The next group starts here, so that later additions renumber nothing outside it.
@@ -33,13 +47,11 @@ impl Store {
     pub fn printed(&mut self, name: &str, text: &[u8], plan: &str) {
         let stem = format!("{:03}-{name}", self.number);
         assert_eq!(print(text), plan, "{stem}");
-        let write = |ending: &str, content: &[u8]| {
-            fs::write(self.folder.join(format!("{stem}.{ending}")), content).expect("a folder to write to");
-        };
-        write("sheet", text);
-        write("plan", plan.as_bytes());
+        self.write(&format!("data/{stem}.sheet"), text);
+        self.write(&format!("data/{stem}.plan"), plan.as_bytes());
         self.number += 1;
-        self.written += 1;
+        self.list += &format!("{stem}.sheet\n");
+        self.stdout += &format!("{stem}.sheet\n{plan}");
     }
 
     /// A sheet that must be refused thus.
@@ -58,12 +70,33 @@ impl Store {
         self.planned(name, &text_of(sheet, &mut numbered_name));
     }
 
-    /// Sheets from elsewhere, with the plans that stand beside them.
-    pub fn given(&mut self, folder: &Path) {
-        self.group(900);
-        for given in sheets_in(folder) {
-            let (_, name) = given.name.split_once('-').expect("a number before each name");
-            self.printed(&format!("given-{name}"), &given.text, &given.plan);
+    /// The given sheets that are stored already, with their plans.
+    pub fn given_before(&mut self) {
+        self.group(FIRST_GIVEN);
+        for stored in sheets_in(&self.folder.join("data")) {
+            if let Some((_, name)) = stored.name.split_once("-given-") {
+                self.printed(&format!("given-{name}"), &stored.text, &stored.plan);
+            }
         }
     }
+
+    /// Sheets from elsewhere, with the plans that stand beside them in document 01's form; the windows come from the independent planner.
+    pub fn given(&mut self, folder: &Path) {
+        self.group(FIRST_GIVEN);
+        for given in sheets_in(folder) {
+            let (_, name) = given.name.split_once('-').expect("a number before each name");
+            let plan = print(&given.text);
+            assert_eq!(without_windows(&plan), given.plan, "{name}");
+            self.printed(&format!("given-{name}"), &given.text, &plan);
+        }
+    }
+}
+
+/// A printed plan in document 01's form, in which D lines have no window.
+fn without_windows(plan: &str) -> String {
+    let before = |line: &str| match line.rsplit_once(',') {
+        Some((times, _)) if line.starts_with("D,") => format!("{times}\n"),
+        _ => format!("{line}\n"),
+    };
+    plan.lines().map(before).collect()
 }

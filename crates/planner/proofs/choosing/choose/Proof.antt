@@ -55,7 +55,7 @@ abbrev better : tie.After-put-trains Inv-loop μ-loop → tie.Then2 Inv-loop μ-
 better c = c .before .before .before
 
 abbrev written : tie.After-put-times Inv-loop μ-loop → tie.After-put-trains Inv-loop μ-loop
-written c = c .before .before .before .before .before .before
+written c = c .before .before .before .before .before .before .before
 
 -- the areas as found
 abbrev found : tie.Start Inv-loop μ-loop → PlanAreas
@@ -117,7 +117,7 @@ put-trains-requires c κs =
 
 put-times-requires : tie.Need-put-times-requires Inv-loop μ-loop
 put-times-requires c κs =
-    let l = head (made (better (c .before .before .before .before .before)) .before) in
+    let l = head (made (better (c .before .before .before .before .before .before)) .before) in
     let g = granted l in
     (passes g .few .trains, omega (arith, room g .times, l .loop .inv .3))
 
@@ -146,7 +146,7 @@ loop-again c =
     let l = head t .loop in
     let (is-better, timely) = both (result r .last) (start t .args .wish) (result r .better) (test .if2 .taken) in
     let is = next-better (sheet t) (progress t) (result r) is-better (goes r .1) in
-    let limit = toZ-ofZ {w = w64} {z = result r .limit} (record { sfits = c .struct-told .given .1 .1 .1 .1 .1 .1 .0 .1 }) in (
+    let limit = toZ-ofZ {w = w64} {z = result r .limit} (record { sfits = c .struct-told .given .1 .1 .1 .1 .1 .1 .1 .0 .1 }) in (
       goes r .0,
       rw limit
           (choice-taken (sheet t) (passes (granted (head t))) (start t .args .wish) (progress t) (result r) (l .choice) _ (found (start t)) (l .inv .1)

@@ -118,7 +118,7 @@ loop-again c =
     let s = sheet (turn r) in
     let l = here (turn r) .loop in
     let is = next-better s (progress r) (r .round .result) (lists .before .before .before .if2 .taken) (goes r .1) in
-    let limit = toZ-ofZ {w = w64} {z = r .round .result .limit} (record { sfits = lists .before .struct-told .given .1 .1 .1 .1 .1 .1 .0 .1 }) in
+    let limit = toZ-ofZ {w = w64} {z = r .round .result .limit} (record { sfits = lists .before .struct-told .given .1 .1 .1 .1 .1 .1 .1 .0 .1 }) in
     let after = list-better s (progress r) (r .round .result) _ _ _ _ _ is (l .inv .1) (rw limit at (lists .list-pair .ensures)) in (
       goes r .0,
       after,

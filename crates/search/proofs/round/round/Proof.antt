@@ -34,10 +34,10 @@ use Rattle.search.proofs.round.round.Tie as tie
 abbrev entry : tie.After-latest → tie.Start
 entry c = c .before .before .before
 
-abbrev timing : tie.After-arrival → tie.After-time-trains
-timing c = c .before .before .before .before .before .before
+abbrev timing : tie.After-window → tie.After-time-trains
+timing c = c .before .before .before .before .before .before .before
 
-abbrev made : tie.After-struct-told → tie.After-arrival
+abbrev made : tie.After-struct-told → tie.After-window
 made c = c .before .before .before .before
 
 -- where the round is begun
@@ -83,7 +83,7 @@ timings : (c : tie.After-time-trains) → let s = start (c .before) in
 timings c = ap (times (sheet (start (c .before)))) (sym (loaded (c .before))) ∙ sym (c .time-trains .ensures)
 
 -- where the plan is made
-module _ (c : tie.After-arrival) where
+module _ (c : tie.After-window) where
   abbrev load : tie.After-load
   load = timing c .before
 
@@ -93,11 +93,12 @@ module _ (c : tie.After-arrival) where
   -- step 2 does not stop it
   runs : let s = start load in
       times (sheet s) (loading (sheet s) (take (sheet s .orders) (progress s .latest)))
-      ≡ timed (take (sheet s .trains) (its .departure)) (take (sheet s .trains) (its .arrival))
+      ≡ timed (take (sheet s .trains) (its .departure)) (take (sheet s .trains) (its .arrival)) (take (sheet s .trains) (its .window))
   runs =
       let q = sheet (start load) .trains in
       timings (timing c)
-      ∙ ap (λ (b : Bool). cond b (timed (take q (its .departure)) (take q (its .arrival))) stopped) (c .before .before .before .before .if1 .taken)
+      ∙ ap (λ (b : Bool). cond b (timed (take q (its .departure)) (take q (its .arrival)) (take q (its .window))) stopped)
+      (c .before .before .before .before .before .if1 .taken)
 
   in-time : UpTo last-arrival (sheet (start load) .trains) (its .arrival)
   in-time = let s = start load in made-in-time (sheet s) (s .pre .0) _ its runs
@@ -140,7 +141,7 @@ module _ (c : tie.After-struct-told) where
       (at-start .pre .0 .complete .orders) (rides (load (made c)))
 
   limit-is : toZ w64 (ofZ w64 (progress at-start .limit)) ≡ progress at-start .limit
-  limit-is = toZ-ofZ {w = w64} (record { sfits = c .struct-told .given .1 .1 .1 .1 .1 .1 .0 .1 })
+  limit-is = toZ-ofZ {w = w64} (record { sfits = c .struct-told .given .1 .1 .1 .1 .1 .1 .1 .0 .1 })
 
   last-is : c .before .before .last-of .result ≡ its-last (made c)
   last-is =
@@ -169,7 +170,7 @@ returns c =
     let p = progress s in
     let (counted, graded) = grades j in
     let y = j .if2 .progress .limit in
-    let limit = toZ-ofZ {w = w64} {z = y} (record { sfits = lower .before .struct-told2 .given .1 .1 .1 .1 .1 .1 .0 .1 }) in
+    let limit = toZ-ofZ {w = w64} {z = y} (record { sfits = lower .before .struct-told2 .given .1 .1 .1 .1 .1 .1 .1 .0 .1 }) in
     let latest = take (m .orders) (p .latest) in
     let low : (k : ℕ) → k < m .orders → at latest k ≤ m .trains = λ k l. omega (arith, getD-take (m .orders) (p .latest) k 0 l, begins s .latest k l) in
     let lowered = rw limit at (lower .lower .ensures) ∙ lower-taken (m .weight) (m .due) (its plan .arrival) y latest (m .trains) (m .orders) low in
