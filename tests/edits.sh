@@ -4,9 +4,9 @@
 set -u
 cd "$(dirname "$0")/.." || exit 2
 
-# what the prover says of a fact that fails: two types or values that differ, arithmetic or equations that do not follow, an equation or a promise that
-# is left open. A declaration that was not admitted only rests on one that failed.
-fact='the two (types|indices|sides|values)( first| differ|,| are)|but this has type|^  does not hold'
+# what the prover says of a fact that fails: two types that differ, arithmetic or equations that do not follow, an equation or a promise that is left
+# open. A declaration that was not admitted only rests on one that failed.
+fact='the two (types|indices|sides)( first| differ|,| are)|but this has type|^  does not hold'
 fact="$fact|does not follow from what it read|the equations do not join|give a proof of that as the last argument"
 open='it is not proved that what the function ensures holds'
 # the places of a proof do not fit the code's statements any more

@@ -19,7 +19,7 @@ use Rattle.rounds.specs.Timing.{stopped, timed}
 use Rattle.rounds.specs.Recording.{Entry, entry-at, last-entry, recorded-arrival}
 use Rattle.rounds.specs.EntryPlan.{EntryPlan, EntryBooked}
 use Rattle.rounds.specs.ChosenPair.{LastInTime, Best, TooEarly}
-use Rattle.rounds.specs.Rounds.{going, ended, recorded-in, start, loading, times, first-timing, rounds, search}
+use Rattle.rounds.specs.Rounds.{going, ended, recorded-in, start, loading, times, first-timing, rounds, recorded-after, search}
 use Rattle.rounds.specs.RoundsBound.{rounds-bound}
 use Rattle.rounds.specs.Answers.{refused, given, Listing, list, last-arrival-in, choose}
 use Rattle.rounds.specs.SumLaws.{within-limit}
@@ -61,18 +61,18 @@ listed-is-front s a {l} e =
 -- ---- what is recorded
 
 -- of each recorded entry, after any number of rounds, the plan is a schedule whose pair it is
-pub recorded-plans : (s : Sheet) → Admitted s → (k m : ℕ) → m < length (recorded-in (rounds s k (start s)))
-    → EntryPlan s (entry-at (recorded-in (rounds s k (start s))) m)
+pub recorded-plans : (s : Sheet) → Admitted s → (k m : ℕ) → m < length (recorded-after s k)
+    → EntryPlan s (entry-at (recorded-after s k) m)
 recorded-plans s a k = entry-plans s a k
 
 -- document 02, No. 2: and its windows are those of its departures
-pub recorded-booked : (s : Sheet) → Admitted s → (k m : ℕ) → m < length (recorded-in (rounds s k (start s)))
-    → EntryBooked s (entry-at (recorded-in (rounds s k (start s))) m)
+pub recorded-booked : (s : Sheet) → Admitted s → (k m : ℕ) → m < length (recorded-after s k)
+    → EntryBooked s (entry-at (recorded-after s k) m)
 recorded-booked s a k = entry-booked s a k
 
 -- the arrival of the pair recorded last never falls from round to round
 pub arrivals-never-fall : (s : Sheet) → Admitted s → (k : ℕ)
-    → recorded-arrival (recorded-in (rounds s k (start s))) ≤ recorded-arrival (recorded-in (rounds s (k + 1) (start s)))
+    → recorded-arrival (recorded-after s k) ≤ recorded-arrival (recorded-after s (k + 1))
 arrivals-never-fall s a k = arrivals.arrivals-never-fall s a k
 
 -- ---- document 02, No. 1: the plan for a wished last arrival
@@ -154,8 +154,9 @@ module _ (s : Sheet) (a : Admitted s) (k c : ℕ) (latest : List ℕ) (y : ℤ) 
       → (j : ℕ) → j < s .orders → at train j ≤ at latest j
   keeps = reached s a k c latest y recorded now .keeps
 
-  -- the plan of the next round departs and arrives, train by train, no later than any schedule that keeps to the latest trains
-  pub earliest : (S F W : List ℕ) → times s (loading s latest) ≡ timed S F W
+  -- the plan of the next round, with departures S and arrivals F, departs and arrives, train by train, no later than any schedule that keeps to the latest
+  -- trains
+  pub earliest : (S F window : List ℕ) → times s (loading s latest) ≡ timed S F window
       → (train departure : List ℕ) → Schedule s train departure → ((j : ℕ) → j < s .orders → at train j ≤ at latest j)
       → (i : ℕ) → 1 ≤ i → i ≤ s .trains → (nth S i ≤ nth departure i) × (nth F i ≤ arrival (s .paths) (nth departure) i)
   earliest = earliest-plan s a k c latest y recorded (reached s a k c latest y recorded now)

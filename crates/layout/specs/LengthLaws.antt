@@ -9,7 +9,7 @@ use lib.Dec.{ltb}
 use lib.IntN.{ℤ, pos, negsuc, natAbs}
 use lib.ListN.{length, getD, length-append, length-take}
 use borrow.Author.Tests.{ltb-true, ltb-false}
-use Rattle.model.specs.Limits.{numbers-a-train}
+use Rattle.model.specs.Limits.{numbers-a-pair, numbers-a-train}
 use Rattle.model.specs.Refusal.{number, returned}
 use Rattle.model.specs.declared.Refusal.{Refusal}
 use Rattle.model.specs.declared.Refusal.the-variants.{Malformed, OutOfRange, KindTooEarly, TooMany, KindMissing, OutOfOrder, PlacesDiffer, NoSchedule}
@@ -92,15 +92,17 @@ refusal-line-short r l = simp length-append (omega (arith, nine-digits (number r
 
 -- ---- a plan
 
-pub pair-lines-short : (pairs : List ℤ) (m : ℕ) → ((k : ℕ) → k < 2 * m → natAbs (getD pairs k (pos 0)) < 1000000000) → length (pair-lines pairs m) ≤ 24 * m
+pub pair-lines-short : (pairs : List ℤ) (m : ℕ) → ((k : ℕ) → k < numbers-a-pair * m → natAbs (getD pairs k (pos 0)) < 1000000000)
+    → length (pair-lines pairs m) ≤ 24 * m
 unfolding pair-lines
 pair-lines-short pairs zero h = omega arith
 pair-lines-short pairs (suc m) h =
+    let a = numbers-a-pair * m in
     omega (
       arith,
-      length-append (pair-lines pairs m) (pair-line (getD pairs (2 * m) (pos 0)) (getD pairs (2 * m + 1) (pos 0))),
+      length-append (pair-lines pairs m) (pair-line (getD pairs a (pos 0)) (getD pairs (a + 1) (pos 0))),
       pair-lines-short pairs m (λ k l. h k (omega arith)),
-      pair-line-short (getD pairs (2 * m) (pos 0)) (getD pairs (2 * m + 1) (pos 0)) (h (2 * m) (omega arith)) (h (2 * m + 1) (omega arith)),
+      pair-line-short (getD pairs a (pos 0)) (getD pairs (a + 1) (pos 0)) (h a (omega arith)) (h (a + 1) (omega arith)),
     )
 
 pub time-lines-short : (times : List ℕ) (m : ℕ) → m < 1000000000 → ((k : ℕ) → k < numbers-a-train * m → getD times k 0 < 1000000000)

@@ -5,11 +5,11 @@ use Prim.Native.Nat.{ℕ, _+_, _*_}
 use native.Mathlib.Numerals.{add-one}
 use lib.IntN.{ℤ, pos}
 use lib.ListN.{getD}
-use Rattle.model.specs.Limits.{numbers-a-train}
+use Rattle.model.specs.Limits.{numbers-a-pair, numbers-a-train}
 use Rattle.layout.specs.Lines.{pair-line, time-line, order-line, pair-lines, time-lines, order-lines}
 
 pub pair-next : (pairs : List ℤ) (i : ℕ) →
-    pair-lines pairs (i + 1) ≡ pair-lines pairs i ++ pair-line (getD pairs (2 * i) (pos 0)) (getD pairs (2 * i + 1) (pos 0))
+    pair-lines pairs (i + 1) ≡ pair-lines pairs i ++ pair-line (getD pairs (numbers-a-pair * i) (pos 0)) (getD pairs (numbers-a-pair * i + 1) (pos 0))
 unfolding pair-lines
 pair-next pairs i = rw (add-one i)
 

@@ -4,7 +4,7 @@ use mathlib.Core.List.{List, [], _∷_, _++_}
 use Prim.Native.Nat.{ℕ, zero, suc, _+_, _*_}
 use lib.IntN.{ℤ, pos}
 use lib.ListN.{getD, take, drop}
-use Rattle.model.specs.Limits.{numbers-a-train}
+use Rattle.model.specs.Limits.{numbers-a-pair, numbers-a-train}
 use Rattle.model.specs.Refusal.{number, returned}
 use Rattle.model.specs.declared.Refusal.{Refusal}
 use Rattle.fields.specs.NamePlaces.{nameAt, within}
@@ -40,7 +40,7 @@ refusal-line r = (69 ∷ []) ++ field (decimal (number r)) ++ field (decimal (re
 unfoldable pub pair-lines : List ℤ → (k : ℕ) → List ℕ
 unfolding pair-line
 pair-lines pairs zero = []
-pair-lines pairs (suc k) = pair-lines pairs k ++ pair-line (getD pairs (2 * k) (pos 0)) (getD pairs (2 * k + 1) (pos 0))
+pair-lines pairs (suc k) = pair-lines pairs k ++ pair-line (getD pairs (numbers-a-pair * k) (pos 0)) (getD pairs (numbers-a-pair * k + 1) (pos 0))
 
 -- "D and L lines stand by rising number": trains 1 to k of the times, three a train
 unfoldable pub time-lines : List ℕ → (k : ℕ) → List ℕ

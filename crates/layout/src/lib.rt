@@ -2,6 +2,7 @@
 use fields::NamePlaces;
 use fields::name::name_part;
 use model::Refusal;
+use model::limits::NUMBERS_A_PAIR;
 use model::limits::NUMBERS_A_TRAIN;
 use writing::Place;
 use writing::name_field;
@@ -11,7 +12,7 @@ use writing::signed_field;
 ghost use mathlib.Core.Path.{_≡_};
 ghost use Prim.Native.Nat.{_/_};
 ghost use lib.ListN.{length};
-ghost use Rattle.model.specs.Limits.{numbers-a-train};
+ghost use Rattle.model.specs.Limits.{numbers-a-pair, numbers-a-train};
 ghost use Rattle.layout.specs.Lines.{pair-line, time-line, order-line, rounds-line, refusal-line, pair-lines, time-lines, name-of, order-lines};
 ghost use Rattle.writing.specs.Writing.{state, pass};
 
@@ -27,13 +28,13 @@ fn pair_line(out: &mut [u8], place: Place, writing: bool, last: i64, worst: i64)
 // The P lines.
 pub fn pair_lines(out: &mut [u8], place: Place, writing: bool, pairs: &[i64]) -> Place
     ensures { λ r. ⌜ state r (now (out .exit)) ≡
-        pass writing (pair-lines (now (pairs .entry)) (length (now (pairs .entry)) / 2)) (state place (now (out .entry))) ⌝ }
+        pass writing (pair-lines (now (pairs .entry)) (length (now (pairs .entry)) / numbers-a-pair)) (state place (now (out .entry))) ⌝ }
 {
-    let count = pairs.len() / 2;
+    let count = pairs.len() / NUMBERS_A_PAIR;
     let mut behind = place;
     let mut i: usize = 0;
     while i < count {
-        let a = 2 * i;
+        let a = NUMBERS_A_PAIR * i;
         let b = a + 1;
         behind = pair_line(out, behind, writing, pairs[a], pairs[b]);
         i += 1;

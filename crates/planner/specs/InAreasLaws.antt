@@ -98,6 +98,11 @@ module _ (ps : List Pair) (found : List ℤ) where
       ext-getD no-pair (table (pair-in left) (length ps)) ps m
       (λ k l. let u : k < length ps = omega (arith, l, m) in table-at (pair-in left) no-pair (length ps) k u ∙ pair-read k u)
 
+-- plans with the same columns
+same-plan : {t t₀ d d₀ a a₀ w w₀ : List ℕ} → t ≡ t₀ → d ≡ d₀ → a ≡ a₀ → w ≡ w₀
+    → _≡_ {A = Plan} (record { train = t; departure = d; arrival = a; window = w }) (record { train = t₀; departure = d₀; arrival = a₀; window = w₀ })
+same-plan t d a w = rw (t, d, a, w) refl
+
 module _ (s : Sheet) (e : Entry) (found : PlanAreas) (placed : EntryPlan s e) (booked : EntryBooked s e) where
   -- a column of times, read at every third place
   column : (l : List ℕ) (f : ℕ → ℕ) → length l ≡ s .trains → ((m : ℕ) → m < s .trains → f m ≡ nth l (suc m)) → table f (s .trains) ≡ l
@@ -127,4 +132,4 @@ module _ (s : Sheet) (e : Entry) (found : PlanAreas) (placed : EntryPlan s e) (b
       (λ m l. written-at (numbers-a-train * m + 1) (omega arith) ∙ times m l .arrival-at) in
       let window = column (x .window) (λ m. at (over written (found .times)) (numbers-a-train * m + 2)) (booked .each-train)
       (λ m l. written-at (numbers-a-train * m + 2) (omega arith) ∙ times m l .window-at) in
-      λ i. record { train = train i; departure = departure i; arrival = arrival i; window = window i }
+      same-plan train departure arrival window

@@ -4,7 +4,7 @@ use Prim.Native.Nat.{ℕ, _+_, _*_, _/_, _≤_, _<_}
 use native.Mathlib.Omega.{arith}
 use lib.IntN.{ℤ, pos, natAbs}
 use lib.ListN.{length, getD, length-append}
-use Rattle.model.specs.Limits.{order-counts, numbers-a-train, most-pair-numbers, most-time-numbers, most-printed}
+use Rattle.model.specs.Limits.{order-counts, numbers-a-pair, numbers-a-train, most-pair-numbers, most-time-numbers, most-printed}
 use Rattle.fields.specs.NamePlaces.{NamesLie}
 use Rattle.fields.specs.declared.NamePlaces.{NamePlaces}
 use Rattle.layout.specs.LengthLaws.{pair-lines-short, time-lines-short, order-lines-short, rounds-line-short, name-short}
@@ -29,9 +29,9 @@ unfolding plan-bytes
 plan-short text names pairs trains times rounds h p o t s =
     let name = name-of text names in
     let lines = length times / numbers-a-train in
-    four-short (pair-lines pairs (length pairs / 2)) (time-lines times lines) (order-lines name trains (length trains)) (rounds-line rounds)
-    (24 * (length pairs / 2)) (42 * lines) (25 * length trains) 12 most-printed
-    (pair-lines-short pairs (length pairs / 2) (λ k l. s .pairs-small k (omega arith)))
+    four-short (pair-lines pairs (length pairs / numbers-a-pair)) (time-lines times lines) (order-lines name trains (length trains)) (rounds-line rounds)
+    (24 * (length pairs / numbers-a-pair)) (42 * lines) (25 * length trains) 12 most-printed
+    (pair-lines-short pairs (length pairs / numbers-a-pair) (λ k l. s .pairs-small k (omega arith)))
     (time-lines-short times lines (omega arith) (λ k l. s .times-small k (omega arith)))
     (order-lines-short name trains (length trains) (name-short text names h) (s .trains-small))
     (rounds-line-short rounds (s .rounds-small)) (omega arith)

@@ -15,7 +15,7 @@ use Rattle.numbers.specs.Counting.{at}
 use Rattle.numbers.specs.DecidesLaws.{decided, decides-eq}
 use Rattle.numbers.specs.Over.{over}
 use Rattle.numbers.specs.OverLaws.{store-two-behind, store-three-behind, store-two-over, copy-next}
-use Rattle.model.specs.Limits.{numbers-a-train}
+use Rattle.model.specs.Limits.{numbers-a-pair, numbers-a-train}
 use Rattle.model.specs.Lateness.{Pair}
 use Rattle.rounds.specs.Recording.{Entry, record-entry, listed, recorded-arrival}
 use Rattle.rounds.specs.RecordingLaws.{FromEnd, nothing, behind, from-end, record-same, record-other}
@@ -49,21 +49,22 @@ place-most (suc k) last arrival = go (decided (decides-eq last arrival))
 
 -- the pair written at place k of an area
 abbrev written : Pair → ℕ → List ℤ → List ℤ
-written p k area = set (set area (2 * k) (pos (p .last))) (2 * k + 1) (p .worst)
+written p k area = set (set area (numbers-a-pair * k) (pos (p .last))) (numbers-a-pair * k + 1) (p .worst)
 
 module _ (p : Pair) (found : List ℤ) where
   module _ (ps : List Pair) (k : ℕ) (e : length ps ≡ k) where
     -- behind k others
-    pair-added : 2 * k + 1 < length found → written p k (over (pair-numbers ps) found) ≡ over (pair-numbers (ps ++ (p ∷ []))) found
+    pair-added : numbers-a-pair * k + 1 < length found → written p k (over (pair-numbers ps) found) ≡ over (pair-numbers (ps ++ (p ∷ []))) found
     pair-added h =
-        store-two-behind (pair-numbers ps) found (2 * k) (pos (p .last)) (p .worst) (omega (arith, pair-numbers-length ps)) h
+        store-two-behind (pair-numbers ps) found (numbers-a-pair * k) (pos (p .last)) (p .worst) (omega (arith, pair-numbers-length ps)) h
         ∙ ap (λ f. over f found) (sym (pair-numbers-behind ps p))
 
     -- in place of the one behind k others
     pair-replaced : (p₀ : Pair) → written p k (over (pair-numbers (ps ++ (p₀ ∷ []))) found) ≡ over (pair-numbers (ps ++ (p ∷ []))) found
     pair-replaced p₀ =
         rw (pair-numbers-behind ps p₀, pair-numbers-behind ps p)
-        (store-two-over (pair-numbers ps) found (2 * k) (pos (p₀ .last)) (p₀ .worst) (pos (p .last)) (p .worst) (omega (arith, pair-numbers-length ps)))
+        (store-two-over (pair-numbers ps) found (numbers-a-pair * k) (pos (p₀ .last)) (p₀ .worst) (pos (p .last)) (p .worst)
+        (omega (arith, pair-numbers-length ps)))
 
   record Written (k : ℕ) (area : List ℤ) (entries : List Entry) : Type 0 where
     pub area-is : written p k area ≡ over (pair-numbers (listed entries)) found
@@ -78,7 +79,7 @@ module _ (p : Pair) (found : List ℤ) where
           count-is = simp length-append;
         }
 
-    after : (entries : List Entry) → 2 * length entries + 1 < length found
+    after : (entries : List Entry) → numbers-a-pair * length entries + 1 < length found
         → Written (length entries) (over (pair-numbers (listed entries)) found) (entries ++ (e ∷ []))
     after entries room =
         record {
@@ -87,14 +88,14 @@ module _ (p : Pair) (found : List ℤ) where
         }
 
 -- the room behind the list, of the area as found
-room-found : (found : List ℤ) (entries : List Entry) (k : ℕ) → k ≡ length entries → 2 * k + 1 < length (over (pair-numbers (listed entries)) found)
-    → 2 * k + 1 < length found
+room-found : (found : List ℤ) (entries : List Entry) (k : ℕ) → k ≡ length entries → numbers-a-pair * k + 1 < length (over (pair-numbers (listed entries)) found)
+    → numbers-a-pair * k + 1 < length found
 room-found found entries k e h =
     let ps = pair-numbers (listed entries) in
     omega (arith, h, pair-numbers-length (listed entries), listed-length entries, length-append ps (drop (length ps) found), length-drop (length ps) found)
 
 -- THE LIST WITH ONE MORE PAIR
-pub lists-more : (count last arrival : ℕ) (worst : ℤ) (area : List ℤ) → 2 * count + 1 < length area
+pub lists-more : (count last arrival : ℕ) (worst : ℤ) (area : List ℤ) → numbers-a-pair * count + 1 < length area
     → (k : ℕ) → k ≡ place count last arrival → (area′ : List ℤ) → area′ ≡ written (record { last = arrival; worst = worst }) k area
     → ListsMore (held-list count last area) (held-list (k + 1) arrival area′) arrival worst
 unfolding record-entry
@@ -145,7 +146,7 @@ lists-more count last arrival worst area room k at-place area′ is-written foun
         split (inr u) =
             let here : k ≡ length all = at-place ∙ sym (place-behind count last arrival (λ h. u (h .1))) ∙ c in
             let other : record-entry all e ≡ all ++ (e ∷ []) = record-other before e₀ e (λ v. u (sym last-arrived ∙ v ∙ arrived)) in
-            let space : 2 * length all + 1 < length found = omega (arith, c, room-found found all count c (rw h at room)) in
+            let space : numbers-a-pair * length all + 1 < length found = omega (arith, c, room-found found all count c (rw h at room)) in
             after-recording all (placed here h (rw other (after p found e is all space)))
 
 -- ---- loops that write from the end: what is still to be written, over what is there, is what it was before the turn

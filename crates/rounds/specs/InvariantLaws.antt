@@ -19,7 +19,7 @@ use Rattle.model.specs.Admission.{Admitted}
 use Rattle.rounds.specs.Timing.{ready, Timed, timed}
 use Rattle.rounds.specs.Recording.{Entry, no-entry}
 use Rattle.rounds.specs.EntryPlan.{EntryPlan, EntryBooked}
-use Rattle.rounds.specs.Rounds.{Search, going, ended, above-everything, recorded-in, start, loading, times, round, rounds, search}
+use Rattle.rounds.specs.Rounds.{Search, going, ended, above-everything, recorded-in, start, loading, times, round, rounds, recorded-after, search}
 use Rattle.rounds.specs.RoundsBound.{rounds-bound}
 use Rattle.rounds.specs.SumLaws.{sum-same, within-limit}
 use Rattle.rounds.specs.TimingRuleLaws.{least-run}
@@ -73,7 +73,7 @@ module _ (s : Sheet) (a : Admitted s) where
   after : (k : ℕ) → Invariant s k (rounds s k (start s))
   after k = simp add-zero at (more-rounds k 0 (start s) start-is)
 
-  on-record-after : (k : ℕ) → (y : ℤ) × (c : ℕ) × OnRecord s y (recorded-in (rounds s k (start s))) c
+  on-record-after : (k : ℕ) → (y : ℤ) × (c : ℕ) × OnRecord s y (recorded-after s k) c
   on-record-after k = go (rounds s k (start s)) (after k)
     where
       go : (x : Search) → Invariant s k x → (y : ℤ) × (c : ℕ) × OnRecord s y (recorded-in x) c
@@ -81,11 +81,11 @@ module _ (s : Sheet) (a : Admitted s) where
       go x (finished {c = c} h) = (h .limit, c, h .on-record)
 
   -- OF EACH RECORDED ENTRY, AT ANY TIME, THE PLAN IS A SCHEDULE WHOSE PAIR IT IS
-  pub entry-plans : (k : ℕ) → All no-entry (EntryPlan s) (recorded-in (rounds s k (start s)))
+  pub entry-plans : (k : ℕ) → All no-entry (EntryPlan s) (recorded-after s k)
   entry-plans k = on-record-after k .2 .plans
 
   -- AND THE WINDOWS ARE THOSE OF ITS DEPARTURES
-  pub entry-booked : (k : ℕ) → All no-entry (EntryBooked s) (recorded-in (rounds s k (start s)))
+  pub entry-booked : (k : ℕ) → All no-entry (EntryBooked s) (recorded-after s k)
   entry-booked k = on-record-after k .2 .booked
 
   -- ---- a search that goes on

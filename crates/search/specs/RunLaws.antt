@@ -8,7 +8,7 @@ use native.Mathlib.Omega.{arith}
 use Rattle.numbers.specs.DecidesLaws.{decides-eq, decided}
 use Rattle.model.specs.Sheet.{Sheet}
 use Rattle.model.specs.Admission.{Admitted}
-use Rattle.rounds.specs.Rounds.{Search, ended, recorded-in, start, rounds, search}
+use Rattle.rounds.specs.Rounds.{Search, ended, recorded-in, start, rounds, recorded-after, search}
 use Rattle.rounds.specs.RoundsLaws.{one-round-more}
 use Rattle.rounds.specs.InvariantLaws.{Over, at-end, search-over}
 use Rattle.search.specs.Shows.{Stands, goes-on, has-ended, Shows, recorded-by, Makes}
@@ -31,7 +31,7 @@ module _ (s : Sheet) where
   unfolding start
   start-records-nothing = refl
 
-  pub nothing-recorded : (k : ℕ) → k ≡ 0 → recorded-in (rounds s k (start s)) ≡ []
+  pub nothing-recorded : (k : ℕ) → k ≡ 0 → recorded-after s k ≡ []
   unfolding rounds
   nothing-recorded k e = rw e start-records-nothing
 
@@ -47,7 +47,7 @@ module _ (s : Sheet) where
   -- the search after it, and what is recorded then
   pub next-shown : (p r : Progress) → Shows s p (rounds s (p .rounds) (start s)) → Makes s p r → r .rounds ≡ p .rounds + 1
       → Shows s r (rounds s (r .rounds) (start s))
-      × (recorded-in (rounds s (r .rounds) (start s)) ≡ recorded-by s r (recorded-in (rounds s (p .rounds) (start s))))
+      × (recorded-after s (r .rounds) ≡ recorded-by s r (recorded-after s (p .rounds)))
   next-shown p r h makes one =
       let next : rounds s (r .rounds) (start s) ≡ _ = ap (λ (k : ℕ). rounds s k (start s)) one ∙ one-round-more s (p .rounds) (start s) in
       let made = makes _ h in

@@ -7,6 +7,7 @@ use lib.IntN.{ℤ, pos}
 use mir.Facts.{toZ-ofZ}
 use mir.Val.{toZ, ofZ}
 use mir.Syntax.{w64}
+use Rattle.model.specs.Limits.{numbers-a-pair}
 use Rattle.writing.specs.Writing.{state, pass}
 use Rattle.writing.specs.WritingLaws.{pass-more, pass-same}
 use Rattle.layout.specs.Lines.{pair-line, pair-lines}
@@ -30,8 +31,8 @@ loop-again : tie.Need-loop-again Inv-loop μ-loop
 loop-again c =
     let l = c .before .before .before .before .before .before .before .loop in
     let a = c .before .before .before .before .before .before .before .before .before .args in
-    let x = getD (a .pairs .now) (2 * l .i) (pos 0) in
-    let y = getD (a .pairs .now) (2 * l .i + 1) (pos 0) in
+    let x = getD (a .pairs .now) (numbers-a-pair * l .i) (pos 0) in
+    let y = getD (a .pairs .now) (numbers-a-pair * l .i + 1) (pos 0) in
     let last : toZ w64 (ofZ w64 x) ≡ x = toZ-ofZ {w = w64} (record { sfits = c .before .before .before .before .pair-line-arg2 .given }) in
     let worst : toZ w64 (ofZ w64 y) ≡ y = toZ-ofZ {w = w64} (record { sfits = c .before .before .before .pair-line-arg3 .given }) in
     let line : pair-line (toZ w64 (ofZ w64 x)) (toZ w64 (ofZ w64 y)) ≡ pair-line x y =
@@ -43,7 +44,7 @@ returns : tie.Need-returns Inv-loop μ-loop
 returns c =
     let l = c .before .loop in
     let a = c .before .before .before .args in
-    let all : l .i ≡ length (a .pairs .now) / 2 = omega arith in
+    let all : l .i ≡ length (a .pairs .now) / numbers-a-pair = omega arith in
     rw all at (l .inv .2)
 
 pub pair-lines-spec : {M : Type 1} → statement M

@@ -1,22 +1,16 @@
 -- `areas::first_orders` meets its contract: a part that ends at the length is the whole. Assumes nothing.
-use Prim.Native.Nat.{ℕ, _-_}
-use mathlib.Core.Path.{_≡_, sym, ap}
+use mathlib.Core.Path.{sym}
 use native.Mathlib.Omega.{arith}
-use lib.ListN.{take}
 use lib.Seq.{take-all}
 use borrow.Author.Needs.{needs}
+use Rattle.numbers.specs.ListLaws.{part-from-0}
 use Rattle.desk.proofs.areas.first_orders.Statement.{statement}
 use Rattle.desk.proofs.areas.first_orders.Tie as tie
-
-returns-2 : tie.Need-returns-2
-returns-2 c =
-    let a = c .before .before .args in
-    let e : a .orders - 0 ≡ a .orders = omega arith in
-    ap (λ (n : ℕ). take n (a .trains .now)) e
 
 pub first-orders-spec : {M : Type 1} → statement M
 first-orders-spec =
     tie.close
     (tie.spec
     (λ c. let a = c .before .args in sym (take-all (a .orders) (a .trains .now) (omega arith))) (λ c. search needs) (λ c. search needs)
-    (λ c. search needs) returns-2)
+    (λ c. search needs)
+    (λ c. let a = c .before .before .args in part-from-0 (a .orders) (a .trains .now)))

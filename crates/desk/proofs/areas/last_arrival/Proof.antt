@@ -6,6 +6,7 @@ use lib.ListN.{getD}
 use mir.Facts.{toZ-ofZ}
 use mir.Syntax.{w64}
 use borrow.Author.Needs.{needs}
+use Rattle.model.specs.Limits.{numbers-a-pair}
 use Rattle.desk.specs.Wish.{arrival-of}
 use Rattle.desk.proofs.areas.last_arrival.Statement.{statement}
 use Rattle.desk.proofs.areas.last_arrival.Tie as tie
@@ -14,7 +15,7 @@ returns-3 : tie.Need-returns-3
 returns-3 c some long =
     let arg = c .before in
     let a = arg .before .before .before .args in
-    let number = getD (a .pairs .now) (2 * (a .count - 1)) (pos 0) in
+    let number = getD (a .pairs .now) (numbers-a-pair * (a .count - 1)) (pos 0) in
     c .arrival-of .ensures ∙ ap arrival-of (toZ-ofZ {w = w64} {z = number} (record { sfits = arg .arrival-of-arg .given }))
 
 pub last-arrival-spec : {M : Type 1} → statement M
