@@ -1,13 +1,14 @@
 /* Joshkamber's calls for C. Link with libcapi.a, which `rt staticlib capi` writes to target/staticlib (x86-64 Linux).
  *
  * Every call returns, asks nothing of its arguments but valid memory, and keeps nothing between calls. What each promises is stated and proved in
- * crates/capi/src/lib.rt.
+ * crates/capi/src.
  *
  * Lent memory does not overlap and is not touched by others during a call. A pointer is never null, not even with length 0.
  */
 #ifndef JOSHKAMBER_H
 #define JOSHKAMBER_H
 
+#include <stdbool.h>
 #include <stddef.h>
 #include <stdint.h>
 
@@ -23,12 +24,13 @@ enum {
 
 /* Why an input is refused; number 0: it is not.
  *
- *    1  a line of no known form, or no final byte 10      7  the capacities do not add up to the number of orders
- *    2  a value outside its range                         8  there is no schedule
- *    3  a kind of line earlier than the line above        9  round limit
- *    4  one more of a kind than allowed                  10  a lent area is too short
- *    5  a kind is missing                                11  the wished arrival is before the first listed one
- *    6  windows, departures or arrivals out of order
+ *    1  a line of no known form, or no final byte 10      8  there is no schedule
+ *    2  a value outside its range                         9  round limit
+ *    3  a kind of line earlier than the line above       10  a lent area is too short
+ *    4  one more of a kind than allowed                  11  the wished arrival is before the first listed one
+ *    5  a kind is missing                                12  a plan has not one departure for each train and one row for each order
+ *    6  windows, departures or arrivals out of order     13  a plan breaks a rule: it is no schedule
+ *    7  the capacities do not add up to the number of orders
  *
  * `returned` is the line, from 1, where a reading call refuses with 1, 2, 3, 4 or 6, and else 0. */
 typedef struct {
@@ -95,6 +97,23 @@ typedef struct {
     int64_t worst;
 } joshkamber_choice;
 
+/* A row of a plan made elsewhere: an order and its train, numbered from 1 as on the sheet. */
+typedef struct {
+    uint32_t order;
+    uint32_t train;
+} joshkamber_row;
+
+/* What checking a plan gives: the plan's last arrival and worst weighted lateness, whether that pair is listed, how many pairs are and how many
+ * rounds were made; or the cause beside false and noughts. */
+typedef struct {
+    joshkamber_cause cause;
+    uint32_t last;
+    int64_t worst;
+    bool listed;
+    size_t pairs;
+    size_t rounds;
+} joshkamber_check;
+
 /* Reads a text. Refusals 1 to 7. */
 joshkamber_windows_read joshkamber_read_windows(const uint8_t *text, size_t length);
 joshkamber_timetable_read joshkamber_read_timetable(const uint8_t *text, size_t length);
@@ -126,6 +145,27 @@ joshkamber_choice joshkamber_choose_windows(joshkamber_window_sheet sheet, uint3
                                             size_t train_of_order_length, uint32_t *times, size_t times_length);
 joshkamber_choice joshkamber_choose_timetable(joshkamber_timetable_sheet sheet, uint32_t wish, uint8_t *train_of_order,
                                               size_t train_of_order_length, uint32_t *times, size_t times_length);
+
+/* Checks a plan made elsewhere: says yes (number 0) exactly if it is a schedule, with its pair and whether that is listed. The plan is lent to be
+ * read, with its lengths in elements; it may hold any numbers:
+ *
+ *    departures       q                 the departure of each train, in the order of the sheet
+ *    rows             n                 each order with its train; the rows stand in any order
+ *
+ * Arrivals are not asked for: they follow from the departures, as in our own plans. Tests the sheet and the pairs area as listing does, and then
+ *
+ *    12  if there are not q departures, not n rows, an order is met twice or is not one of 1 to n, or a train is not one of 1 to q;
+ *    13  if a train has not as many orders as places, leaves before the release of one of them, outside the windows, or less than the gap behind
+ *        the train ahead; in the timetable form, if one of the departures is not the sheet's.
+ *
+ * So the refusals are 2, 4 to 7, 10, 12 and 13. There is no 8, since a plan that passes is a schedule.
+ *
+ * After a yes the pairs area (at least 2 n q elements) is as listing leaves it. If the plan's pair is not listed, a listed one is at least as good
+ * on both counts and better on one, and choosing by its arrival gives its plan. Nothing is written where the call refuses. */
+joshkamber_check joshkamber_check_windows(joshkamber_window_sheet sheet, const uint32_t *departures, size_t departures_length,
+                                          const joshkamber_row *rows, size_t rows_length, int64_t *pairs, size_t pairs_length);
+joshkamber_check joshkamber_check_timetable(joshkamber_timetable_sheet sheet, const uint32_t *departures, size_t departures_length,
+                                            const joshkamber_row *rows, size_t rows_length, int64_t *pairs, size_t pairs_length);
 
 #ifdef __cplusplus
 }

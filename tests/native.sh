@@ -51,7 +51,7 @@ no_test_in_src() {
 rust_tests() {
     (cd "$1" && cargo test -j1 --release --offline --no-fail-fast -- --nocapture) >"$work/cargo" 2>&1
     status=$?
-    grep -E '^(listing|stored sheets|test result|differs|error)|FAILED|panicked' "$work/cargo"
+    grep -E '^(checking|listing|stored sheets|test result|differs|error)|FAILED|panicked' "$work/cargo"
     counts=$(sed -n 's/^test result: .* \([0-9][0-9]*\) passed; \([0-9][0-9]*\) failed;.*/\1 \2/p' "$work/cargo")
     good=$(echo "$counts" | awk '{ sum += $1 } END { print sum + 0 }')
     bad=$(echo "$counts" | awk '{ sum += $2 } END { print sum + 0 }')
@@ -75,7 +75,7 @@ c_example() {
         cmp "$work/$1.out" "examples/$1.expected"
 }
 
-# every stored hard sheet is timed, in listing and in choosing; both planners agree on pairs and rounds, and ours takes at most 1.5 times as long
+# every stored hard sheet is timed, in listing, choosing and checking; both planners agree on pairs and rounds, and ours takes at most 1.5 times as long
 benchmark() {
     (cd binding && cargo run -q -j1 --release --offline --bin bench -- 3) >"$work/bench" 2>&1
     status=$?
@@ -88,6 +88,7 @@ one "static library" library
 package binding
 one "C example: plan" c_example plan_a
 one "C example: choose" c_example choose_a
+one "C example: check" c_example check_a
 one "benchmark" benchmark
 
 echo "$passed passed, $failed failed"

@@ -1,6 +1,9 @@
 //! The areas lent to a call, with guards: values that no pair and no plan has, in each element and on both sides of the lent part.
 
+use crate::calls::Row;
+use native::checking::ForeignPlan;
 use native::plan::NUMBERS_A_TRAIN;
+use std::hint::black_box;
 
 /// How many guards stand before the lent part, and how many behind it.
 const GUARDS: usize = 8;
@@ -13,6 +16,13 @@ pub struct Area<T> {
 impl<T: Copy + PartialEq> Area<T> {
     fn new(length: usize, guard: T) -> Area<T> {
         Area { elements: vec![guard; GUARDS + length + GUARDS], guard }
+    }
+
+    /// Lent with elements to be read.
+    fn holding(elements: &[T], guard: T) -> Area<T> {
+        let mut area = Area::new(elements.len(), guard);
+        area.lent().copy_from_slice(elements);
+        area
     }
 
     pub fn lent(&mut self) -> &mut [T] {
@@ -61,4 +71,34 @@ impl PlanAreas {
     pub fn least(n: usize, q: usize) -> [usize; 2] {
         [n, NUMBERS_A_TRAIN * q]
     }
+}
+
+/// What checking is lent: a plan's departures and rows, which it only reads, and what listing is lent.
+pub struct CheckAreas {
+    pub departures: Area<u32>,
+    pub rows: Area<Row>,
+    pub pairs: PairsArea,
+}
+
+impl CheckAreas {
+    /// With a pairs area of this length.
+    pub fn holding(plan: &ForeignPlan, pairs: usize) -> CheckAreas {
+        CheckAreas {
+            departures: Area::holding(&plan.departures, u32::MAX),
+            rows: Area::holding(&exported_rows(plan), Row { order: u32::MAX, train: u32::MAX }),
+            pairs: PairsArea::of_length(pairs),
+        }
+    }
+
+    /// The plan still stands between its guards. The compiler does not know what the call read.
+    pub fn hold(&self, plan: &ForeignPlan) -> bool {
+        let CheckAreas { departures, rows, .. } = black_box(self);
+        let (q, n) = (plan.departures.len(), plan.rows.len());
+        let as_lent = departures.first(q) == plan.departures && rows.first(n) == exported_rows(plan);
+        as_lent && departures.guarded_but(q) && rows.guarded_but(n)
+    }
+}
+
+fn exported_rows(plan: &ForeignPlan) -> Vec<Row> {
+    plan.rows.iter().map(|row| Row { order: row.order, train: row.train }).collect()
 }

@@ -82,6 +82,26 @@ pub struct Choice {
     pub worst: i64,
 }
 
+/// A row of a plan made elsewhere: an order and its train, numbered from 1.
+#[repr(C)]
+#[derive(Clone, Copy, Debug, PartialEq, Eq)]
+pub struct Row {
+    pub order: u32,
+    pub train: u32,
+}
+
+/// The checked plan's pair, whether that is listed, how many pairs are and how many rounds were made, or the cause beside noughts.
+#[repr(C)]
+#[derive(Clone, Copy, Debug, PartialEq, Eq)]
+pub struct Check {
+    pub cause: Cause,
+    pub last: u32,
+    pub worst: i64,
+    pub listed: bool,
+    pub pairs: usize,
+    pub rounds: usize,
+}
+
 // A slice passes as a pointer, then a length.
 #[rustfmt::skip]
 extern "C" {
@@ -97,6 +117,12 @@ extern "C" {
     fn joshkamber_choose_timetable(
         sheet: TimetableSheet, wish: u32, train_of_order: *mut u8, train_of_order_length: usize, times: *mut u32, times_length: usize,
     ) -> Choice;
+    fn joshkamber_check_windows(
+        sheet: WindowSheet, departures: *const u32, departures_length: usize, rows: *const Row, rows_length: usize, pairs: *mut i64, pairs_length: usize,
+    ) -> Check;
+    fn joshkamber_check_timetable(
+        sheet: TimetableSheet, departures: *const u32, departures_length: usize, rows: *const Row, rows_length: usize, pairs: *mut i64, pairs_length: usize,
+    ) -> Check;
 }
 
 /// Reads a text of the window form.
@@ -164,6 +190,41 @@ pub fn choose_timetable(sheet: &TimetableSheet, wish: u32, train_of_order: &mut 
             train_of_order.len(),
             times.as_mut_ptr(),
             times.len(),
+        )
+    }
+}
+
+/// Checks a plan made elsewhere, on a sheet of the window form: its departures, train by train, and its rows in any order, with any numbers.
+/// The area is as for `list_windows`, and takes the list where the plan is a schedule.
+pub fn check_windows(sheet: &WindowSheet, departures: &[u32], rows: &[Row], pairs: &mut [i64]) -> Check {
+    // SAFETY: the three pointers are not null and valid for as many elements, the first two for reads; the third is valid for reads and writes and
+    // lent for this call alone, so they do not overlap. The call writes in no other memory, keeps nothing, takes any departures and rows, and tests
+    // the sheet and the lengths itself.
+    unsafe {
+        joshkamber_check_windows(
+            *sheet,
+            departures.as_ptr(),
+            departures.len(),
+            rows.as_ptr(),
+            rows.len(),
+            pairs.as_mut_ptr(),
+            pairs.len(),
+        )
+    }
+}
+
+/// The same on a sheet of the timetable form.
+pub fn check_timetable(sheet: &TimetableSheet, departures: &[u32], rows: &[Row], pairs: &mut [i64]) -> Check {
+    // SAFETY: as in `check_windows`.
+    unsafe {
+        joshkamber_check_timetable(
+            *sheet,
+            departures.as_ptr(),
+            departures.len(),
+            rows.as_ptr(),
+            rows.len(),
+            pairs.as_mut_ptr(),
+            pairs.len(),
         )
     }
 }

@@ -1,8 +1,8 @@
 //! Sheets as the exported calls take and give them, from and to the independent implementation's sheets.
 
-use crate::areas::{PairsArea, PlanAreas};
-use crate::calls::{choose_timetable, choose_windows, list_timetable, list_windows};
-use crate::calls::{Choice, Listing, TimetableSheet, WindowSheet};
+use crate::areas::{CheckAreas, PairsArea, PlanAreas};
+use crate::calls::{check_timetable, check_windows, choose_timetable, choose_windows, list_timetable, list_windows};
+use crate::calls::{Check, Choice, Listing, TimetableSheet, WindowSheet};
 use native::sheet::{Orders, Paths, Sheet, Timetable, Windows};
 
 /// Stands behind the elements of a column, where it is not read. No sheet may have it.
@@ -27,6 +27,14 @@ impl ExportedSheet {
         match self {
             ExportedSheet::Windows(sheet) => choose_windows(sheet, wish, train_of_order, times),
             ExportedSheet::Timetable(sheet) => choose_timetable(sheet, wish, train_of_order, times),
+        }
+    }
+
+    pub fn check_in(&self, areas: &mut CheckAreas) -> Check {
+        let (departures, rows, pairs) = (areas.departures.lent(), areas.rows.lent(), areas.pairs.lent());
+        match self {
+            ExportedSheet::Windows(sheet) => check_windows(sheet, departures, rows, pairs),
+            ExportedSheet::Timetable(sheet) => check_timetable(sheet, departures, rows, pairs),
         }
     }
 }

@@ -1,16 +1,18 @@
 //! The product as an implementation beside the independent one: the same calls, with the same types.
 
-use crate::areas::{PairsArea, PlanAreas};
+use crate::areas::{CheckAreas, PairsArea, PlanAreas};
 use crate::calls::{name_in_timetable, name_in_windows, read_timetable, read_windows, Cause, NamePlace};
 use crate::exported::ExportedSheet;
+use native::checking::{Checked, ForeignPlan};
 use native::plan::{times_in, Entry, Listing, Pair, Plan};
+use native::planner::Counts;
 use native::print::Implementation;
 use native::reader::Reading;
 use native::refusal::Refusal;
 use native::sheet::{Form, Sheet};
 use std::ops::Range;
 
-pub const PRODUCT: Implementation = Implementation { read, list, choose };
+pub const PRODUCT: Implementation = Implementation { read, list, choose, check };
 
 fn passed(cause: Cause) -> Result<(), Refusal> {
     match cause.number {
@@ -69,4 +71,16 @@ fn choose(sheet: &Sheet, wish: u32) -> Result<Entry, Refusal> {
         times: times_in(areas.times.first(lengths[1])),
     };
     Ok(Entry { pair: Pair { arrival: choice.last, lateness: choice.worst }, plan })
+}
+
+fn check(sheet: &Sheet, plan: &ForeignPlan) -> Result<Checked, Refusal> {
+    let (n, q) = sheet.size();
+    let mut areas = CheckAreas::holding(plan, PairsArea::least(n, q));
+    let check = ExportedSheet::from(sheet).check_in(&mut areas);
+    passed(check.cause)?;
+    Ok(Checked {
+        pair: Pair { arrival: check.last, lateness: check.worst },
+        listed: check.listed,
+        counts: Counts { pairs: check.pairs, rounds: check.rounds },
+    })
 }

@@ -1,13 +1,16 @@
-//! An independent reader and planner, written from documents 01 and 02 alone, and what tests it: the rounds word for word, a listing of every
-//! loading, drawn sheets and damaged texts.
+//! An independent reader, planner and checker, written from documents 01 and 02 alone, and what tests it: the rounds word for word, a listing of
+//! every loading and of every schedule, drawn sheets, damaged texts and damaged plans.
 
 pub mod admission;
 pub mod agreement;
 pub mod booking;
 pub mod cases;
+pub mod checking;
 pub mod climb;
 pub mod damage;
 pub mod draw;
+pub mod every_plan;
+pub mod foreign;
 pub mod ladder;
 pub mod limits;
 pub mod line;

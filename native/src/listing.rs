@@ -1,4 +1,4 @@
-//! Brute force for small sheets: every loading, the best list of pairs, and the best pair in time.
+//! Brute force for small sheets: every loading, the best list of pairs, the best pair in time, and every schedule.
 
 use crate::limits::MOST_TRAINS;
 use crate::plan::Pair;
@@ -45,17 +45,36 @@ pub fn seen(sheet: &Sheet) -> Seen {
     seen
 }
 
-/// All loadings and all departures; by timetable there are no others.
+/// All loadings and all departures.
 pub fn seen_with_all_departures(sheet: &Sheet) -> Seen {
-    let Paths::Windows(windows) = &sheet.paths else { return seen(sheet) };
     let mut seen = Seen::default();
+    each_schedule(sheet, &mut |_, train, arrival| see(&mut seen, sheet, train, arrival));
+    seen
+}
+
+/// Every schedule, as its departures and the train (from 0) of each order, with its pair.
+pub fn schedules(sheet: &Sheet) -> BTreeMap<(Vec<u32>, Vec<usize>), Pair> {
+    let mut schedules = BTreeMap::new();
+    each_schedule(sheet, &mut |departure, train, arrival| {
+        schedules.insert((departure.to_vec(), train.to_vec()), pair_of(sheet, train, arrival));
+    });
+    schedules
+}
+
+/// Calls `visit` with the departures, the train (from 0) of each order and the arrivals, for every schedule.
+fn each_schedule(sheet: &Sheet, visit: &mut impl FnMut(&[u32], &[usize], &Row)) {
     each_loading(sheet, &mut |train| {
         let greatest = greatest_releases(&sheet.orders, train);
-        each_departure(windows, &greatest, &mut Vec::new(), &mut |departure| {
-            see(&mut seen, sheet, train, &arrivals(windows, departure));
-        });
+        match &sheet.paths {
+            Paths::Windows(windows) => each_departure(windows, &greatest, &mut Vec::new(), &mut |departure| {
+                visit(departure, train, &arrivals(windows, departure));
+            }),
+            Paths::Timetable(timetable) => {
+                let arrival = earliest_arrivals(sheet, &greatest);
+                arrival.iter().for_each(|arrival| visit(&timetable.departure, train, arrival));
+            }
+        }
     });
-    seen
 }
 
 /// Calls `visit` with the train (from 0) of each order, for every loading.
@@ -142,8 +161,13 @@ fn arrivals(windows: &Windows, departure: &[u32]) -> Row {
     arrival
 }
 
-fn see(Seen(least): &mut Seen, sheet: &Sheet, train: &[usize], arrival: &Row) {
+fn pair_of(sheet: &Sheet, train: &[usize], arrival: &Row) -> Pair {
     let (n, q) = sheet.size();
     let worst = (0..n).map(|j| sheet.orders.lateness(j, arrival[train[j]])).max().expect("an order");
-    least.entry(arrival[q - 1]).and_modify(|least| *least = worst.min(*least)).or_insert(worst);
+    Pair { arrival: arrival[q - 1], lateness: worst }
+}
+
+fn see(Seen(least): &mut Seen, sheet: &Sheet, train: &[usize], arrival: &Row) {
+    let Pair { arrival, lateness } = pair_of(sheet, train, arrival);
+    least.entry(arrival).and_modify(|least| *least = lateness.min(*least)).or_insert(lateness);
 }

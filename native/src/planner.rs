@@ -61,7 +61,7 @@ pub fn choose(sheet: &Sheet, wish: u32) -> Result<Entry, Refusal> {
 }
 
 /// The orders and trains that areas have room for: a sheet beyond the limits is refused before the areas matter.
-fn room(sheet: &Sheet) -> (usize, usize) {
+pub fn room(sheet: &Sheet) -> (usize, usize) {
     let (n, q) = sheet.size();
     (n.min(MOST_ORDERS), q.min(MOST_TRAINS))
 }

@@ -1,25 +1,27 @@
 //! The printed plan, from a sheet's text.
 
+use crate::checking::{Checked, ForeignPlan};
 use crate::plan::{Entry, Listing, Plan};
 use crate::reader::Reading;
 use crate::refusal::Refusal;
 use crate::sheet::{Form, Sheet};
-use crate::{planner, reader};
+use crate::{checking, planner, reader};
 use std::fmt::Write;
 use std::ops::Range;
 
 /// What the program `plan` reads at most.
 pub const LONGEST_TEXT: usize = 65_536;
 
-/// The calls that printing takes.
+/// The calls that printing takes, and the checking call.
 pub struct Implementation {
     pub read: fn(&[u8], Form) -> Result<Reading, Refusal>,
     pub list: fn(&Sheet) -> Result<Listing, Refusal>,
     pub choose: fn(&Sheet, u32) -> Result<Entry, Refusal>,
+    pub check: fn(&Sheet, &ForeignPlan) -> Result<Checked, Refusal>,
 }
 
 pub const INDEPENDENT: Implementation =
-    Implementation { read: reader::read, list: planner::list, choose: planner::choose };
+    Implementation { read: reader::read, list: planner::list, choose: planner::choose, check: checking::check };
 
 /// What the program `plan` prints for this standard input, by the independent implementation.
 pub fn print(text: &[u8]) -> String {

@@ -11,9 +11,11 @@ pub const NO_SCHEDULE: usize = 8;
 pub const ROUND_LIMIT: usize = 9;
 pub const AREA_TOO_SHORT: usize = 10;
 pub const WISH_TOO_EARLY: usize = 11;
+pub const WRONG_ROWS: usize = 12;
+pub const RULE_BROKEN: usize = 13;
 
 /// How many numbers there are, with 0 for "not refused".
-pub const NUMBER_COUNT: usize = 12;
+pub const NUMBER_COUNT: usize = 14;
 
 #[derive(Clone, Copy, Debug, PartialEq, Eq)]
 pub struct Refusal {

@@ -2,7 +2,7 @@
 //! While they run, two bytes are kept for each order, its train and its latest train; and, for choosing, the plan of every listed pair.
 
 use crate::limits::*;
-use crate::plan::{Entry, Pair, Plan, Times};
+use crate::plan::{Entry, Listing, Pair, Plan, Times};
 use crate::refusal::*;
 use crate::sheet::{Orders, Paths, Sheet, Timetable, Windows};
 
@@ -13,6 +13,11 @@ pub struct Recorded {
 }
 
 impl Recorded {
+    /// What listing gives of it.
+    pub fn listing(&self) -> Listing {
+        Listing { pairs: self.entries.iter().map(|entry| entry.pair).collect(), rounds: self.rounds }
+    }
+
     /// The last listed pair that is not later than the wished arrival, with its plan.
     pub fn chosen(&self, wish: u32) -> Result<&Entry, Refusal> {
         let in_time = |entry: &&Entry| entry.pair.arrival <= wish;

@@ -11,10 +11,13 @@ pub fn cause_of<T>(answer: &Result<T, Refusal>) -> Cause {
     }
 }
 
-/// The refusal if a lent area is too short: 10 comes after the refusals of the sheet, before 8, 9 and 11.
+/// Given after 10: by the rounds, by the wish, and by a plan that is checked.
+const AFTER_AREAS: [usize; 5] = [NO_SCHEDULE, ROUND_LIMIT, WISH_TOO_EARLY, WRONG_ROWS, RULE_BROKEN];
+
+/// The refusal if a lent area is too short: 10 comes after the refusals of the sheet.
 pub fn if_short<T>(answer: &Result<T, Refusal>) -> Refusal {
     match answer {
-        Err(refusal) if ![NO_SCHEDULE, ROUND_LIMIT, WISH_TOO_EARLY].contains(&refusal.number) => *refusal,
+        Err(refusal) if !AFTER_AREAS.contains(&refusal.number) => *refusal,
         _ => Refusal::of_all(AREA_TOO_SHORT),
     }
 }

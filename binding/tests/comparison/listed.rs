@@ -23,11 +23,16 @@ pub fn check_listing(sheet: &Sheet, expected: &Result<Listing, Refusal>, rng: &m
 /// With an area of this length: the reply, the first elements, and the rest as found.
 fn check_in(sheet: &Sheet, length: usize, expected: &Result<Listing, Refusal>) {
     let (pairs, rounds): (&[Pair], usize) = expected.as_ref().map_or((&[], 0), |list| (&list.pairs, list.rounds));
-    let numbers: Vec<i64> = pairs.iter().flat_map(|pair| [pair.arrival.into(), pair.lateness]).collect();
+    let numbers = numbers_of(pairs);
     let mut area = PairsArea::of_length(length);
     let reply = ExportedSheet::from(sheet).list_in(&mut area);
     let expected = calls::Listing { cause: cause_of(expected), pairs: pairs.len(), rounds };
     assert_eq!(reply, expected, "{length} {sheet:?}");
     assert_eq!(area.first(numbers.len()), numbers, "{length} {sheet:?}");
     assert!(area.guarded_but(numbers.len()), "{length} {sheet:?}");
+}
+
+/// What the area of pairs holds of these.
+pub fn numbers_of(pairs: &[Pair]) -> Vec<i64> {
+    pairs.iter().flat_map(|pair| [pair.arrival.into(), pair.lateness]).collect()
 }

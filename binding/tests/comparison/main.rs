@@ -1,7 +1,9 @@
-//! The product against the independent implementation: random sheets, sheets spoiled in memory, damaged texts, stored sheets;
-//! and against the listing of every loading.
+//! The product against the independent implementation: random sheets, sheets spoiled in memory, damaged texts, plans from elsewhere, stored sheets;
+//! and against the listing of every loading and of every schedule.
 
 mod cause;
+mod checked;
+mod checking;
 mod chosen;
 mod listed;
 mod listing;

@@ -7,7 +7,6 @@ use native::admission::admit;
 use native::draw::{big, drawn_size, small};
 use native::ladder::{ladder_timetable, ladder_windows, Ladder};
 use native::limits::MOST_TRAINS;
-use native::plan::Listing;
 use native::reader::read;
 use native::refusal::*;
 use native::rng::Rng;
@@ -24,7 +23,7 @@ const LEAST_READ: usize = 80;
 fn check_planning(sheet: &Sheet, rng: &mut Rng) -> Vec<usize> {
     let recorded = admit(sheet).and_then(|()| search(sheet));
     let recorded = recorded.as_ref().map_err(|&refusal| refusal);
-    let listed = recorded.map(listing_of);
+    let listed = recorded.map(Recorded::listing);
     check_listing(sheet, &listed, rng);
     let mut met = vec![number_of(&listed)];
     for wish in wishes(&listed.map_or(Vec::new(), |listing| listing.pairs)) {
@@ -33,10 +32,6 @@ fn check_planning(sheet: &Sheet, rng: &mut Rng) -> Vec<usize> {
         met.push(number_of(&chosen));
     }
     met
-}
-
-fn listing_of(Recorded { entries, rounds }: &Recorded) -> Listing {
-    Listing { pairs: entries.iter().map(|entry| entry.pair).collect(), rounds: *rounds }
 }
 
 fn number_of<T>(answer: &Result<T, Refusal>) -> usize {

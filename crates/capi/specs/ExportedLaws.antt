@@ -9,7 +9,7 @@ use Rattle.model.specs.declared.Admission.{Admission}
 use Rattle.model.specs.declared.Admission.the-variants.{Granted, Refused}
 use Rattle.model.specs.declared.Refusal.{Refusal}
 use Rattle.model.specs.declared.Refusal.the-variants.{Malformed, OutOfRange, KindTooEarly, TooMany, KindMissing, OutOfOrder, PlacesDiffer}
-use Rattle.model.specs.declared.Refusal.the-variants.{NoSchedule, RoundLimit, AreaTooShort, WishTooEarly}
+use Rattle.model.specs.declared.Refusal.the-variants.{NoSchedule, RoundLimit, AreaTooShort, WishTooEarly, WrongRows, RuleBroken}
 use Rattle.fields.specs.declared.NamePlaces.{NamePlaces}
 use Rattle.sheet.specs.ReadingCall.{ReadingCall}
 use Rattle.capi.specs.Exported.{causeOf, causeIn, ExportedReading}
@@ -28,6 +28,8 @@ numbered NoSchedule = omega arith
 numbered RoundLimit = omega arith
 numbered AreaTooShort = omega arith
 numbered WishTooEarly = omega arith
+numbered WrongRows = omega arith
+numbered RuleBroken = omega arith
 
 pub cause-is : (r : Refusal) (n l : ℕ) → n ≡ number r → l ≡ returned r → record { number = n; returned = l } ≡ causeOf r
 cause-is r n l e f = rw (e, f)

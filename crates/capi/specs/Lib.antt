@@ -2,3 +2,5 @@ pub mod Exported
 pub mod ExportedLaws
 pub mod ExportedPlanning
 pub mod ExportedPlanningLaws
+pub mod ExportedChecking
+pub mod ExportedCheckingLaws

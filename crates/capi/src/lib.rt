@@ -1,6 +1,8 @@
-// The calls for C and Rust: for each form reading a text, the place of an order's name in it, listing the pairs of a sheet and choosing a plan. Not exported
-// are a name as a part of the text, the tests of a sheet alone, and printing. The calls take and return numbers, slices (in C a pointer, then a length) and
-// structs laid out as in C, and ask nothing of their caller. include/joshkamber.h declares them.
+// The calls for C and Rust: for each form reading a text, the place of an order's name in it, listing the pairs of a sheet, choosing a plan and, in
+// `checking`, checking one. Not exported are a name as a part of the text, the tests of a sheet alone, and printing. The calls take and return numbers,
+// slices (in C a pointer, then a length) and structs laid out as in C, and ask nothing of their caller. include/joshkamber.h declares them.
+pub mod checking;
+
 use fields::NamePlace;
 use model::Admission;
 use model::ChoiceReply;

@@ -1,6 +1,6 @@
 -- Laws of runs: how one goes on and ends, that it stays in the text, and what its bytes are. Assumes nothing.
 use mathlib.Core.Path.{_≡_, refl}
-use mathlib.Core.Bool.{Bool, true, false, _&&_, cond}
+use mathlib.Core.Bool.{Bool, true, false, cond}
 use mathlib.Core.List.{List, [], _∷_}
 use Prim.Native.Nat.{ℕ, zero, suc, _+_, _≤_, _<_, _^_}
 use native.Mathlib.Omega.{arith}
@@ -11,6 +11,7 @@ use lib.Seq.{drop-cons, getD-drop}
 use lib.Dec.{leb}
 use borrow.Author.Tests.{leb-true}
 use Rattle.numbers.specs.Counting.{at}
+use Rattle.numbers.specs.DecidesLaws.{and-true}
 use Rattle.model.specs.Limits.{Range, Inside, inside, _–_}
 use Rattle.fields.specs.Fields.{allowedIn, runOf}
 use Rattle.fields.specs.Numbers.{decimalOf}
@@ -66,10 +67,6 @@ module _ (a : Alphabet) where
 pub by-test : {A : Type 0} (P : A → Type 0) (b : Bool) {x y : A} → (b ≡ true → P x) → (b ≡ false → P y) → P (cond b x y)
 by-test P true f g = f refl
 by-test P false f g = g refl
-
-pub and-true : (a b : Bool) → a && b ≡ true → (a ≡ true) × (b ≡ true)
-and-true true b e = (refl, e)
-and-true false b e = let z : _≡_ {A = ℕ} 0 1 = cc in absurd (omega arith)
 
 pub inside-means : (r : Range) (x : ℕ) → inside r x ≡ true → Inside r x
 inside-means r x e =

@@ -3,6 +3,7 @@
 -- of another file, and assumes nothing.
 use mathlib.Core.Path.{_≡_}
 use mathlib.Core.Logic.{_↔_}
+use mathlib.Core.Bool.{true}
 use mathlib.Core.List.{List}
 use Prim.Native.Nat.{ℕ, _+_, _*_, _≤_, _<_}
 use lib.IntN.{ℤ}
@@ -13,15 +14,18 @@ use Rattle.model.specs.Sheet.{Sheet}
 use Rattle.model.specs.Schedule.{Schedule}
 use Rattle.model.specs.Arrival.{arrival}
 use Rattle.model.specs.Lateness.{Pair, pairOf, AtLeastAsGood, pair-at}
+use Rattle.model.specs.Foreign.{RowsFit, trains-told, RowsTell, rows-of}
 use Rattle.model.specs.Admission.{Admitted}
-use Rattle.model.specs.declared.Refusal.the-variants.{NoSchedule, RoundLimit, WishTooEarly}
+use Rattle.model.specs.declared.Row.{Row}
+use Rattle.model.specs.declared.Refusal.the-variants.{NoSchedule, RoundLimit, WishTooEarly, WrongRows, RuleBroken}
 use Rattle.rounds.specs.Timing.{stopped, timed}
 use Rattle.rounds.specs.Recording.{Entry, entry-at, last-entry, recorded-arrival}
 use Rattle.rounds.specs.EntryPlan.{EntryPlan, EntryBooked}
-use Rattle.rounds.specs.ChosenPair.{LastInTime, Best, TooEarly}
+use Rattle.rounds.specs.ChosenPair.{LastInTime, Best, TooEarly, Unbeaten}
 use Rattle.rounds.specs.Rounds.{going, ended, recorded-in, start, loading, times, first-timing, rounds, recorded-after, search}
 use Rattle.rounds.specs.RoundsBound.{rounds-bound}
 use Rattle.rounds.specs.Answers.{refused, given, Listing, list, last-arrival-in, choose}
+use Rattle.rounds.specs.Checking.{Verdict, check}
 use Rattle.rounds.specs.SumLaws.{within-limit}
 use Rattle.rounds.specs.PairListLaws.{apart}
 use Rattle.rounds.specs.InvariantLaws.{entry-plans, entry-booked, reached, earliest-plan}
@@ -29,6 +33,7 @@ use Rattle.rounds.specs.ArrivalLaws as arrivals
 use Rattle.rounds.specs.AnswerLaws.{listed-so, eight-means, eight-given, eight-stops, nine-never, ends-within}
 use Rattle.rounds.specs.ChosenLaws.{choice-best, chosen-so, eleven-chosen, eleven-before-first, nine-never-chosen}
 use Rattle.rounds.specs.ChoosingLaws.{booked-chosen, eight-chosen, eight-chosen-stops, listed-chosen, last-recorded-chosen}
+use Rattle.rounds.specs.CheckingLaws.{yes-so, yes-unbeaten, yes-given, twelve-given, thirteen-given, own-plan, own-rows}
 
 -- ---- demand 3: the listed pairs
 
@@ -124,6 +129,55 @@ before-the-first s a wish u = eleven-before-first s a wish u
 -- that is when there is a schedule, and none arrives by the wish
 pub wish-too-early : (s : Sheet) → Admitted s → (wish : ℕ) → choose s wish ≡ refused WishTooEarly ↔ TooEarly s wish
 wish-too-early s a wish = eleven-chosen s a wish
+
+-- ---- document 02, No. 3: plans from other firms
+
+-- the pair of a plan, whether it is listed, and the list: the trains are those that the rows say
+pub record SaidYes (s : Sheet) (departure : List ℕ) (rows : List Row) (v : Verdict) : Type 0 where
+  pub fit : RowsFit s departure rows
+  pub schedule : Schedule s (trains-told (s .orders) rows) departure
+  -- "with its pair"; "Arrivals come from our rule"
+  pub pair : v .pair ≡ pairOf s (trains-told (s .orders) rows) departure
+  -- "and whether that pair is listed"
+  pub is-list : list s ≡ given (v .listing)
+  pub listed : v .is-listed ≡ true ↔ ((k : ℕ) × (k < length (v .listing .pairs)) × (pair-at (v .listing .pairs) k ≡ v .pair))
+
+pub says-yes : (s : Sheet) → Admitted s → (departure : List ℕ) (rows : List Row) {v : Verdict} → check s departure rows ≡ given v
+    → SaidYes s departure rows v
+says-yes s a departure rows e =
+    let h = yes-so s departure rows a e in
+    record { fit = h .fit; schedule = h .schedule; pair = h .pair; is-list = h .is-list; listed = h .listed }
+
+-- "It says yes exactly when the plan is a schedule of the model"
+pub says-yes-to : (s : Sheet) → Admitted s → (departure : List ℕ) (rows : List Row)
+    → ((v : Verdict) × (check s departure rows ≡ given v)) ↔ (RowsFit s departure rows × Schedule s (trains-told (s .orders) rows) departure)
+says-yes-to s a departure rows = yes-given s departure rows a
+
+-- listed exactly when there is no better plan: none that is at least as good on both counts and has another pair
+pub listed-unbeaten : (s : Sheet) → Admitted s → (departure : List ℕ) (rows : List Row) {v : Verdict} → check s departure rows ≡ given v
+    → v .is-listed ≡ true ↔ Unbeaten s (v .pair)
+listed-unbeaten s a departure rows e = yes-unbeaten s departure rows a e
+
+-- "12, a wrong number of rows, an order met twice or outside 1 to n, or a train outside 1 to q"
+pub rows-wrong : (s : Sheet) → Admitted s → (departure : List ℕ) (rows : List Row)
+    → check s departure rows ≡ refused WrongRows ↔ (¬ RowsFit s departure rows)
+rows-wrong s a departure rows = twelve-given s departure rows a
+
+-- "13, a schedule rule broken"; "12 before 13"
+pub rule-broken : (s : Sheet) → Admitted s → (departure : List ℕ) (rows : List Row)
+    → check s departure rows ≡ refused RuleBroken ↔ (RowsFit s departure rows × (¬ Schedule s (trains-told (s .orders) rows) departure))
+rule-broken s a departure rows = thirteen-given s departure rows a
+
+-- "Every plan that our own planner makes gets a yes", and is listed: the plan chosen for whatever wish, its rows in whatever order
+pub own-plan-listed : (s : Sheet) → Admitted s → (wish : ℕ) (e : Entry) → choose s wish ≡ given e → (rows : List Row)
+    → RowsTell s (e .plan .train) (e .plan .departure) rows
+    → (v : Verdict) × (check s (e .plan .departure) rows ≡ given v) × (v .pair ≡ e .pair) × (v .is-listed ≡ true)
+own-plan-listed s a wish e u rows t = own-plan s a wish e u rows t
+
+-- there are such rows: one for each order, by its number
+pub own-rows-tell : (s : Sheet) → Admitted s → (wish : ℕ) (e : Entry) → choose s wish ≡ given e
+    → RowsTell s (e .plan .train) (e .plan .departure) (rows-of (e .plan .train))
+own-rows-tell s a wish e u = own-rows s a wish e u
 
 -- ---- how many rounds
 

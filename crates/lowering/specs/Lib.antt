@@ -1,3 +1,4 @@
 pub mod Ranged
+pub mod RangedLaws
 pub mod SoFar
 pub mod LoweringStepLaws

@@ -20,7 +20,7 @@ use Rattle.model.specs.declared.Refusal.the-variants.{OutOfRange, TooMan
 decides-unit : Decides (Unit {0}) true
 decides-unit = record { sound = λ t. tt; complete = λ u. tt }
 
-decides-inside : (r : Range) (x : ℕ) → Decides (Inside r x) (inside r x)
+pub decides-inside : (r : Range) (x : ℕ) → Decides (Inside r x) (inside r x)
 decides-inside r x = decides-and (decides-le (r .least) x) (decides-le x (r .most))
 
 -- ---- 4

@@ -1,11 +1,11 @@
 -- THE WORDS FOR COUNTING that the definitions of every crate use.
 -- Places count from 0, as elements stand in a list; numbers count from 1, as the paper numbers trains and windows.
-use mathlib.Core.Bool.{Bool, true, false, _&&_, cond}
+use mathlib.Core.Bool.{Bool, true, false, _&&_, _||_, cond}
 use mathlib.Core.List.{List, [], _∷_, _++_}
 use Prim.Native.Nat.{ℕ, zero, suc, _+_, _-_}
 use lib.IntN.{ℤ}
 use lib.ListN.{getD}
-use lib.Signed.{ltZ}
+use lib.Signed.{ltZ, leZ}
 
 -- the element at place j; 0 past the end
 abbrev pub at : List ℕ → ℕ → ℕ
@@ -42,6 +42,15 @@ every p (suc n) = p n && every p n
 abbrev pub each : (ℕ → Bool) → ℕ → Bool
 each p q = every (λ m. p (suc m)) q
 
+-- some place 0 .. n − 1 passes
+unfoldable pub some : (ℕ → Bool) → ℕ → Bool
+some p zero = false
+some p (suc n) = p n || some p n
+
+-- some number 1 .. q passes
+abbrev pub any : (ℕ → Bool) → ℕ → Bool
+any p q = some (λ m. p (suc m)) q
+
 -- f 0 + … + f (n − 1)
 unfoldable pub sum : (ℕ → ℕ) → ℕ → ℕ
 sum f zero = 0
@@ -58,3 +67,7 @@ larger a b = cond (ltZ a b) b a
 unfoldable pub greatest : (ℕ → ℤ) → ℕ → ℤ
 greatest f zero = f 0
 greatest f (suc m) = larger (greatest f m) (f (suc m))
+
+-- two signed numbers are the same: neither is above the other
+abbrev pub same : ℤ → ℤ → Bool
+same a b = leZ a b && leZ b a

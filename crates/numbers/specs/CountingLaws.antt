@@ -1,15 +1,15 @@
 -- Laws of the counting words. Assumes nothing.
 use mathlib.Core.Path.{_≡_, refl, sym, _∙_, subst, ap}
 use mathlib.Core.Logic.{_⊎_, inl, inr}
-use mathlib.Core.Bool.{Bool, true, false, _&&_}
-use mathlib.Core.List.{List, [], _∷_, _++_}
+use mathlib.Core.Bool.{Bool, true, false, _&&_, _||_}
+use mathlib.Core.List.{[], _∷_, _++_}
 use Prim.Native.Nat.{ℕ, zero, suc, _+_, _≤_, _<_}
 use native.Mathlib.Omega.{arith}
 use native.Mathlib.Numerals.{add-one}
 use lib.Dec.{eqb}
 use lib.ListN.{length, getD, length-append, List·getD-append}
 use lib.Seq.{getD-at}
-use Rattle.numbers.specs.Counting.{one-if, count, every, table}
+use Rattle.numbers.specs.Counting.{one-if, count, every, some, table}
 use Rattle.numbers.specs.DecidesLaws.{Decides, decides-eq, decided, extend}
 
 -- ---- one test
@@ -192,6 +192,23 @@ every-and p q (suc n) = rw (every-and p q n) (swap (p n) (q n) (every p n) (ever
     swap true false true d = refl
     swap true false false d = refl
     swap false b c d = refl
+
+-- ---- a test of some place
+
+-- from its start, one place more at a time
+pub some-start : (p : ℕ → Bool) → false ≡ some p 0
+unfolding some
+some-start p = refl
+
+pub some-more : (p : ℕ → Bool) (n : ℕ) → some p (n + 1) ≡ (p n || some p n)
+unfolding some
+some-more p n = rw add-one
+
+-- two tests that agree
+pub some-same-below : (p q : ℕ → Bool) (n : ℕ) → ((j : ℕ) → j < n → p j ≡ q j) → some p n ≡ some q n
+unfolding some
+some-same-below p q zero h = refl
+some-same-below p q (suc n) h = rw (h n (omega arith), some-same-below p q n (λ j l. h j (omega arith)))
 
 -- ---- tables
 

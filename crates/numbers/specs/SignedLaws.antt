@@ -10,8 +10,8 @@ use lib.Dec.{T, leb, ltb, leb→le, le→leb, ltb→lt, lt→ltb}
 use lib.IntN.{ℤ, pos, negsuc, natAbs, negℤ, _-ℤ_, _*ℤ_, subℕ}
 use lib.Signed.{ltZ, leZ, _≤ℤ_, _<ℤ_, leZ-yes, ltZ-yes, ≤ℤ-refl, clashℤ}
 use borrow.Author.Tests.{lt-ltb, le-ltb}
-use Rattle.numbers.specs.Counting.{larger, greatest}
-use Rattle.numbers.specs.DecidesLaws.{decided, decides-lt, decides-ltℤ, cond-yes, cond-no, extend}
+use Rattle.numbers.specs.Counting.{larger, greatest, same}
+use Rattle.numbers.specs.DecidesLaws.{Decides, decided, decides-lt, decides-ltℤ, decides-and, decides-iff, cond-yes, cond-no, extend}
 
 -- ---- order
 
@@ -50,6 +50,24 @@ pub ≤ℤ-<ℤ-trans : {a b c : ℤ} → a ≤ℤ b → b <ℤ c → a <ℤ c
     go : (a <ℤ c) ⊎ (¬ (a <ℤ c)) → a <ℤ c
     go (inl l) = l
     go (inr l) = clashℤ k (≤ℤ-trans (≮ℤ-≤ℤ l) h)
+
+-- ---- the same number
+
+decides-≤ℤ : (a b : ℤ) → Decides (a ≤ℤ b) (leZ a b)
+decides-≤ℤ a b = record { sound = leZ-yes; complete = λ h. h .le }
+
+le-antisym : (a b : ℤ) → T (leZ a b) → T (leZ b a) → a ≡ b
+le-antisym (pos a) (pos b) h k = ap pos (omega (arith, leb→le a b h, leb→le b a k))
+le-antisym (pos a) (negsuc b) h k = absurd h
+le-antisym (negsuc a) (pos b) h k = absurd k
+le-antisym (negsuc a) (negsuc b) h k = ap negsuc (omega (arith, leb→le b a h, leb→le a b k))
+
+pub neither-above : {a b : ℤ} → a ≤ℤ b → b ≤ℤ a → a ≡ b
+neither-above {a} {b} h k = le-antisym a b (h .le) (k .le)
+
+pub decides-same : (a b : ℤ) → Decides (a ≡ b) (same a b)
+decides-same a b =
+    decides-iff (λ x. neither-above (x .0) (x .1)) (λ e. (rw e (≤ℤ-refl b), rw e (≤ℤ-refl b))) (decides-and (decides-≤ℤ a b) (decides-≤ℤ b a))
 
 -- ---- the greatest of several
 

@@ -89,18 +89,18 @@ module _ (s : Sheet) (a : Admitted s) (wish : ℕ) where
 
 module _ (s : Sheet) (wish : ℕ) (r : ChoiceReply) (left found : PlanAreas) (told : ChoiceTold s (choose-to s wish found) r left found) where
   -- an accepted call's entry: the sheet is admitted, the rounds give it, its pair is the one given, and its plan is in the areas
-  record Accepted (p : Pair) : Type 0 where
-    admitted : Admitted s
-    entry : Entry
-    is : choose s wish ≡ given entry
-    pair : entry .pair ≡ p
-    plan : plan-in s left ≡ entry .plan
+  pub record Accepted (p : Pair) : Type 0 where
+    pub admitted : Admitted s
+    pub entry : Entry
+    pub is : choose s wish ≡ given entry
+    pub pair : entry .pair ≡ p
+    pub plan : plan-in s left ≡ entry .plan
 
   same-pair : {last last₀ : ℕ} {worst worst₀ : ℤ} → last ≡ last₀ → worst ≡ worst₀ → _≡_ {A = Pair} (record { last = last; worst = worst })
       (record { last = last₀; worst = worst₀ })
   same-pair u v = rw (u, v) refl
 
-  accepts : (p : Pair) → Gives r p → Accepted p
+  pub accepts : (p : Pair) → Gives r p → Accepted p
   unfolding choose-to choice-reply
   accepts p g = go (choose-to s wish found) refl (told .replied)
     where

@@ -81,15 +81,18 @@ module _ (ps : List Pair) (found : List ℤ) where
   abbrev left : List ℤ
   left = over (pair-numbers ps) found
 
-  pair-read : (k : ℕ) → k < length ps → pair-in left k ≡ pair-at ps k
-  pair-read k l =
+  -- the two numbers of a listed pair
+  pub numbers-read : (k : ℕ) → k < length ps
+      → (getD left (numbers-a-pair * k) (pos 0) ≡ pos (pair-at ps k .last)) × (getD left (numbers-a-pair * k + 1) (pos 0) ≡ pair-at ps k .worst)
+  numbers-read k l =
       let h = pair-found ps k l in
-      let m = pair-numbers-length ps in
-      rw (
+      let m = pair-numbers-length ps in (
         over-at (pair-numbers ps) found (pos 0) (numbers-a-pair * k) (omega arith) ∙ h .last-at,
         over-at (pair-numbers ps) found (pos 0) (numbers-a-pair * k + 1) (omega arith) ∙ h .worst-at,
       )
-      refl
+
+  pair-read : (k : ℕ) → k < length ps → pair-in left k ≡ pair-at ps k
+  pair-read k l = let (last, worst) = numbers-read k l in rw (last, worst) refl
 
   pub pairs-read : pairs-in (length ps) left ≡ ps
   unfolding pairs-in

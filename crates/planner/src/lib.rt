@@ -2,4 +2,4 @@
 // and each call is lent just the areas that it fills.
 pub mod choosing;
 pub mod listing;
-mod tests;
+pub mod tests;

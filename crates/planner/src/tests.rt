@@ -21,7 +21,7 @@ fn with_room(room: bool) -> Admission
     Admission::Refused(Refusal::AreaTooShort)
 }
 
-// For listing, which fills the pairs area.
+// For listing and checking, which fill the pairs area.
 pub fn for_listing(sheet: Sheet, pairs: usize) -> Admission
     ensures { λ r. ⌜ r ≡ tested (sheetOf sheet) (list-room (sheetOf sheet) pairs) ⌝ }
 {

@@ -57,12 +57,12 @@ plan-times-length s x = time-numbers-length (x .departure) (x .arrival) (x .wind
 -- ---- a refused call: "always with 0 returned and every lent area as found"
 
 -- whether a call's answer refuses, and why
-abbrev of-answer : {A : Type 0} → Answer A → Admission
+abbrev pub of-answer : {A : Type 0} → Answer A → Admission
 of-answer (refused r) = tests.Refused r
 of-answer (given x) = tests.Granted
 
 -- where the answer of the rounds returns 0 the call's answer does
-tested-returns : {A : Type 0} (s : Sheet) (room : Bool) (x : Answer A) → returnedOf (of-answer x) ≡ 0
+pub tested-returns : {A : Type 0} (s : Sheet) (room : Bool) (x : Answer A) → returnedOf (of-answer x) ≡ 0
     → returnedOf (of-answer (after-tests (tested s room) x)) ≡ 0
 unfolding tested after-admission after-tests
 tested-returns s room x z = go (admission s) refl
@@ -86,14 +86,19 @@ unfolding choice-reply
 choice-told (refused r) = refl
 choice-told (given e) = refl
 
-pub list-returns : (s : Sheet) (lent : List ℤ) → returnedOf (of-listing (list-reply (list-to s lent))) ≡ 0
-unfolding list-to list list-of
-list-returns s lent = ap returnedOf (listing-told (list-to s lent)) ∙ tested-returns s (list-room s (length lent)) (list s) (go (search s))
+-- the rounds return 0
+pub list-zero : (s : Sheet) → returnedOf (of-answer (list s)) ≡ 0
+unfolding list list-of
+list-zero s = go (search s)
   where
     go : (x : Search) → returnedOf (of-answer (list-of x)) ≡ 0
     go (going c latest y recorded) = refl
     go (ended c []) = refl
     go (ended c (e ∷ es)) = refl
+
+pub list-returns : (s : Sheet) (lent : List ℤ) → returnedOf (of-listing (list-reply (list-to s lent))) ≡ 0
+unfolding list-to
+list-returns s lent = ap returnedOf (listing-told (list-to s lent)) ∙ tested-returns s (list-room s (length lent)) (list s) (list-zero s)
 
 pub choice-returns : (s : Sheet) (wish : ℕ) (lent : PlanAreas) → returnedOf (of-choice (choice-reply (choose-to s wish lent))) ≡ 0
 unfolding choose-to choose choice-of chosen

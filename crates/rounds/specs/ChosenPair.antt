@@ -1,4 +1,5 @@
--- WHAT HOLDS OF A CHOSEN PAIR, AND WHEN A WISH IS TOO EARLY (document 02, No. 1; proved in ChoiceLaws.antt and ChosenLaws.antt).
+-- WHAT HOLDS OF A CHOSEN PAIR, AND WHEN A WISH IS TOO EARLY (document 02, No. 1; proved in ChoiceLaws.antt and ChosenLaws.antt), AND WHEN A PAIR IS LISTED
+-- (No. 3; proved in CheckingLaws.antt).
 use mathlib.Core.Path.{_≡_}
 use mathlib.Core.List.{List}
 use Prim.Native.Nat.{ℕ, _≤_, _<_}
@@ -6,7 +7,7 @@ use lib.ListN.{length}
 use lib.Signed.{_≤ℤ_}
 use Rattle.model.specs.Sheet.{Sheet}
 use Rattle.model.specs.Schedule.{Schedule}
-use Rattle.model.specs.Lateness.{Pair, pairOf, pair-at}
+use Rattle.model.specs.Lateness.{Pair, pairOf, pair-at, AtLeastAsGood}
 
 -- "the last listed pair not later than it"
 pub record LastInTime (wish : ℕ) (pairs : List Pair) (p : Pair) : Type 0 where
@@ -25,3 +26,7 @@ Best s wish p =
 pub record TooEarly (s : Sheet) (wish : ℕ) : Type 0 where
   pub some : (train : List ℕ) × (departure : List ℕ) × Schedule s train departure
   pub later : (train departure : List ℕ) → Schedule s train departure → wish < pairOf s train departure .last
+
+-- no schedule is better: one that is at least as good on both counts has the same pair
+abbrev pub Unbeaten : (s : Sheet) (p : Pair) → Type 0
+Unbeaten s p = (train departure : List ℕ) → Schedule s train departure → AtLeastAsGood (pairOf s train departure) p → pairOf s train departure ≡ p

@@ -15,6 +15,7 @@ pub mod Answers
 pub mod ListLaws
 pub mod Areas
 pub mod AreaLaws
+pub mod Checking
 pub mod Told
 pub mod Cases
 pub mod CaseLaws
@@ -34,4 +35,7 @@ pub mod AnswerLaws
 pub mod ChoiceLaws
 pub mod ChosenLaws
 pub mod ChoosingLaws
+pub mod CheckingLaws
+pub mod CheckCases
+pub mod CheckCaseLaws
 pub mod SizeLaws

@@ -6,8 +6,9 @@ use Prim.Native.Nat.{ℕ, _≤_, _<_}
 use native.Mathlib.Omega.{arith}
 use lib.ListN.{length, length-set}
 use borrow.Author.Tests.{ltb-true}
+use Rattle.numbers.specs.DecidesLaws.{and-true}
 use Rattle.model.specs.Limits.{Inside, inside, release-range, due-range, weight-range}
-use Rattle.fields.specs.FieldLaws.{and-true, inside-means}
+use Rattle.fields.specs.FieldLaws.{inside-means}
 use Rattle.fields.specs.Names.{NameAt}
 use Rattle.rows.specs.FaultLaws.{NoFault}
 use Rattle.rows.specs.ColumnLaws.{Rows, Column, rows-more, column-more}

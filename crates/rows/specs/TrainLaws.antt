@@ -8,10 +8,11 @@ use lib.Dec.{ltb, eqb}
 use lib.ListN.{length, length-set, set}
 use borrow.Author.Tests.{ltb-true}
 use Rattle.numbers.specs.Counting.{nth}
+use Rattle.numbers.specs.DecidesLaws.{and-true}
 use Rattle.model.specs.Limits.{Inside, inside, capacity-range, running-range, departure-range, arrival-range}
 use Rattle.model.specs.declared.Form.{Form}
 use Rattle.model.specs.declared.Form.the-variants.{Windows, Timetable}
-use Rattle.fields.specs.FieldLaws.{and-true, inside-means}
+use Rattle.fields.specs.FieldLaws.{inside-means}
 use Rattle.rows.specs.FaultLaws.{NoFault, after-first}
 use Rattle.rows.specs.ColumnLaws.{Rows, Steps, Column, rows-more, steps-more, column-more}
 use Rattle.rows.specs.TrainLines.{noTrains, trainTests, fixedTrainTests}

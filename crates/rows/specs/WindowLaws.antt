@@ -7,8 +7,9 @@ use lib.Dec.{leb, ltb, eqb}
 use lib.ListN.{length, length-set}
 use borrow.Author.Tests.{leb-true, ltb-true}
 use Rattle.numbers.specs.Counting.{nth}
+use Rattle.numbers.specs.DecidesLaws.{and-true}
 use Rattle.model.specs.Limits.{Inside, inside, window-range}
-use Rattle.fields.specs.FieldLaws.{and-true, inside-means}
+use Rattle.fields.specs.FieldLaws.{inside-means}
 use Rattle.rows.specs.FaultLaws.{NoFault, after-first}
 use Rattle.rows.specs.ColumnLaws.{Rows, Steps, rows-more, steps-more}
 use Rattle.rows.specs.WindowLines.{noWindows, windowTests, withWindow}

@@ -18,9 +18,9 @@ use Rattle.rounds.specs.Rounds.{Search, start, times, rounds}
 use Rattle.rounds.specs.ScheduleLaws.{timed-within}
 use Rattle.rounds.specs.OneRoundLaws.{Going, every-order-loaded}
 use Rattle.rounds.specs.InvariantLaws.{reached}
-use Rattle.columns.specs.Columns.{UpTo, Loaded}
+use Rattle.columns.specs.Columns.{UpTo}
 use Rattle.timing.specs.declared.Times.{Times}
-use Rattle.lowering.specs.Ranged.{Ranged, Arrives, ArrivesTo}
+use Rattle.lowering.specs.Ranged.{ArrivesTo}
 use Rattle.search.specs.Shows.{Stands, goes-on, has-ended, Reached}
 use Rattle.search.specs.ShowsLaws.{one-outcome}
 use Rattle.search.specs.Parts.{Begun}
@@ -50,28 +50,12 @@ made-in-time s a train t e j l =
     let here : suc j - 1 ≡ j = omega arith in
     rw (here, getD-take (s .trains) (t .arrival) j 0 l) at within
 
--- the first orders' trains are those of a loading
-pub loaded-column : (s : Sheet) (train : List ℕ) → Loaded s (take (s .orders) train) → Loaded s train
-loaded-column s train h j l = rw (getD-take (s .orders) train j 0 l) at (h j l)
-
 module _ (m : memory.Sheet) (a : Admitted (sheetOf m)) where
-  pub in-ranges : Ranged (m .«order_count») (m .weight) (m .due)
-  in-ranges =
-      record {
-        few = a .few .orders;
-        weights = λ j l. a .in-range .orders j l .weight .1;
-        dues = λ j l. a .in-range .orders j l .due .1;
-      }
-
   pub capacities : UpTo (capacity-range .most) (m .«train_count») (m .capacity)
   capacities i l =
       let here : suc i - 1 ≡ i = omega arith in
       omega (arith, ap (at (m .capacity)) here, a .in-range .capacity (suc i) (omega arith) l .1)
 
-  module _ (arrival : List ℕ) (in-time : UpTo last-arrival (m .«train_count») arrival) where
-    pub arrives : (train : List ℕ) → Loaded (sheetOf m) train → Arrives (m .«order_count») train arrival
-    arrives train h j l =
-        let (some, few) = h j l in (some, omega (arith, few, a .few .trains), in-time (at train j - 1) (omega arith))
-
-    pub arrives-to : (latest : List ℕ) → UpTo (m .«train_count») (m .«order_count») latest → ArrivesTo (m .«order_count») latest arrival
-    arrives-to latest h j l = (omega (arith, h j l, a .few .trains), λ i k. in-time i (omega (arith, k, h j l)))
+  pub arrives-to : (arrival latest : List ℕ) → UpTo last-arrival (m .«train_count») arrival → UpTo (m .«train_count») (m .«order_count») latest
+      → ArrivesTo (m .«order_count») latest arrival
+  arrives-to arrival latest in-time h j l = (omega (arith, h j l, a .few .trains), λ i k. in-time i (omega (arith, k, h j l)))

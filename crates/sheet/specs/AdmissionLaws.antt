@@ -6,6 +6,7 @@ use Prim.Native.Nat.{ℕ, _≤_, _<_}
 use lib.Dec.{leb, eqb}
 use borrow.Author.Tests.{leb-true, eqb-true}
 use Rattle.numbers.specs.Counting.{nth}
+use Rattle.numbers.specs.DecidesLaws.{and-true}
 use Rattle.model.specs.Sheet.{places}
 use Rattle.model.specs.Memory.{pathsBy, sheetOf}
 use Rattle.model.specs.Limits.{Inside, capacity-range, running-range}
@@ -13,7 +14,6 @@ use Rattle.model.specs.Admission.{Admitted, FewWindows, SomeWindow, PathsInRang
 use Rattle.model.specs.declared.Admission.the-variants.{Granted}
 use Rattle.model.specs.declared.Form.{Form}
 use Rattle.model.specs.declared.Form.the-variants.{Windows, Timetable}
-use Rattle.fields.specs.FieldLaws.{and-true}
 use Rattle.rows.specs.FaultLaws.{no-last-fault}
 use Rattle.rows.specs.ColumnLaws.{rows-numbered, steps-numbered, column-numbered}
 use Rattle.gather.specs.Tests.{windowsComplete, complete, endFault}

@@ -17,7 +17,7 @@ use Rattle.numbers.specs.ListLaws.{take-replicate}
 use Rattle.columns.specs.Columns.{UpTo}
 use Rattle.columns.specs.ColumnLaws.{nth-at}
 use Rattle.model.specs.Sheet.{Windows, Paths, windows, timetable}
-use Rattle.model.specs.Arrival.{arrivalBehind}
+use Rattle.model.specs.Arrival.{arrivalBehind, arrival}
 use Rattle.model.specs.ArrivalLaws.{arrival-first, arrival-next}
 use Rattle.model.specs.Limits.{last-instant, train-counts}
 use Rattle.model.specs.Memory.{pathsBy, sheetOf}
@@ -318,3 +318,10 @@ timed-by-form m train released form is few e =
 
     f : ℕ → ℕ
     f = ready (at (m .release)) (take (m .«order_count») train) (m .«order_count»)
+
+-- the form decides which arrivals follow from the departures
+pub arrived-by-form : (m : memory.Sheet) (departure arrivals : List ℕ) (form : Form) → m .form ≡ form
+    → take (m .«train_count») arrivals ≡ row (arrival (pathsBy form m) (nth departure)) (m .«train_count»)
+    → take (m .«train_count») arrivals ≡ row (arrival (sheetOf m .paths) (nth departure)) (m .«train_count»)
+arrived-by-form m departure arrivals form is e =
+    e ∙ ap (λ (form : Form). row (arrival (pathsBy form m) (nth departure)) (m .«train_count»)) (sym is)

@@ -1,5 +1,6 @@
 // Step 2 of a round: the departures, arrivals and windows of the trains. Train i stands at place i - 1 of every list.
 use columns::last_of;
+use columns::none_above;
 use columns::of_train;
 use model::Form;
 use model::Sheet;
@@ -9,11 +10,10 @@ use model::limits::MOST_TRAINS;
 ghost use mathlib.Core.Path.{_≡_};
 ghost use Prim.Native.Nat.{_≤_, max};
 ghost use lib.ListN.{take};
-ghost use lib.Dec.{leb};
-ghost use Rattle.numbers.specs.Counting.{at, nth, row, each};
+ghost use Rattle.numbers.specs.Counting.{at, nth, row};
 ghost use Rattle.model.specs.Memory.{windowsOf, sheetOf};
-ghost use Rattle.model.specs.Arrival.{arrivalBehind};
-ghost use Rattle.model.specs.Limits.{train-counts, order-counts, gap-range, running-range};
+ghost use Rattle.model.specs.Arrival.{arrival as arrival-of, arrivalBehind};
+ghost use Rattle.model.specs.Limits.{last-instant, train-counts, order-counts, gap-range, running-range};
 ghost use Rattle.model.specs.Admission.{Admitted};
 ghost use Rattle.rounds.specs.Timing.{ready, departures as departures-of};
 ghost use Rattle.rounds.specs.Rounds.{times as times-of};
@@ -114,25 +114,28 @@ fn arrivals_to(
 
 // The arrivals that follow from the departures in the window form.
 fn find_arrivals(sheet: Sheet, departure: [u32; MOST_TRAINS]) -> [u32; MOST_TRAINS]
-    requires { ⌜ Admitted (sheetOf sheet) × (sheet .form ≡ Form.Windows) × UpTo never (train-counts .most) departure ⌝ }
+    requires { ⌜ Admitted (sheetOf sheet) × (sheet .form ≡ Form.Windows) × UpTo never (sheet .«train_count») departure ⌝ }
     ensures { λ r. ⌜ take (sheet .«train_count») r ≡ row (arrivalBehind (sheet .gap) (nth (sheet .running)) (nth departure)) (sheet .«train_count») ⌝ }
 {
     let running = sheet.running;
     arrivals_to(sheet.gap, &running, &departure, sheet.train_count as u8)
 }
 
-// Whether no release exceeds its train's fixed departure.
-fn keeps_timetable(q: usize, departure: [u32; MOST_TRAINS], released: [u32; MOST_TRAINS]) -> bool
-    requires { ⌜ q ≤ train-counts .most ⌝ }
-    ensures { λ r. ⌜ r ≡ each (λ i. leb (nth released i) (nth departure i)) q ⌝ }
+// The arrivals that follow from these departures, by the sheet's form.
+pub fn arrive(sheet: Sheet, departure: [u32; MOST_TRAINS]) -> [u32; MOST_TRAINS]
+    requires { ⌜ Admitted (sheetOf sheet) × UpTo last-instant (sheet .«train_count») departure ⌝ }
+    ensures { λ r. ⌜ take (sheet .«train_count») r ≡ row (arrival-of (sheetOf sheet .paths) (nth departure)) (sheet .«train_count») ⌝ }
 {
-    let mut kept = true;
-    let mut i: usize = 0;
-    while i < q {
-        kept = (released[i] <= departure[i]) & kept;
-        i += 1;
+    let form = sheet.form;
+    match form {
+        Form::Windows => {
+            return find_arrivals(sheet, departure);
+        }
+        Form::Timetable => {
+            let arrival = sheet.arrival;
+            return arrival;
+        }
     }
-    kept
 }
 
 // The times of the trains that carry these orders, by the sheet's form.
@@ -159,7 +162,7 @@ pub fn time_trains(sheet: Sheet, train: [u8; MOST_ORDERS]) -> Times
         }
         Form::Timetable => {
             let departure = sheet.departure;
-            let runs = keeps_timetable(sheet.train_count, departure, released);
+            let runs = none_above(sheet.train_count, released, departure);
             let arrival = sheet.arrival;
             let window = [0u8; MOST_TRAINS];
             return Times {

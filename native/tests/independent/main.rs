@@ -1,7 +1,9 @@
 //! The independent implementation against document 01's cases, the stored sheets, the rounds word for word and the listing.
 
 mod areas;
+mod checking;
 mod choosing;
+mod judge;
 mod listing;
 mod memory;
 mod printing;

@@ -1,17 +1,18 @@
 //! Times the product against the independent planner on sheet files, in one run: `bench [repeats] [FILE...]`; without files, on the stored hard sheets.
 //!
-//! Both list the pairs of the same sheet in memory, and choose a plan by the last listed arrival and by the first one, with areas lent once and not
-//! cleared between calls. The product's choosing may stop at the first pair that is later than the wish; the independent planner makes every round,
-//! and keeps the plan of every listed pair, in each call. Both are built for release and for the same processors: the product by its toolchain for
-//! plain x86-64, this program for Rust's default target, which is the same. Without files, a second table has the time per round of listing against
-//! n and q. The last line says how many ratios are at most 1.5; the exit status is 0 only if all are, and choosing stops early.
+//! Both list the pairs of the same sheet in memory, choose a plan by the last listed arrival and by the first one, and check the plan of the last
+//! pair, with areas lent once and not cleared between calls. The product's choosing may stop at the first pair that is later than the wish; the
+//! independent planner makes every round, and keeps the plan of every listed pair, in each call. Both are built for release and for the same
+//! processors: the product by its toolchain for plain x86-64, this program for Rust's default target, which is the same. Below the table stands what
+//! checking takes beyond listing. Without files, a second table has the time per round of listing against n and q. The last line says how many ratios
+//! are at most 1.5; the exit status is 0 only if all are, and choosing stops early.
 
 mod timing;
 
 use native::ladder::{ladder_windows, Ladder};
 use native::reader::read;
 use native::rng::Rng;
-use native::sheet::Form;
+use native::sheet::{Form, Orders, Sheet};
 use native::stored::stored_sheets;
 use std::path::Path;
 use timing::{Bench, Timed};
@@ -31,6 +32,16 @@ const MANY_PAIRS: usize = 20;
 const ORDERS: [u32; 3] = [50, 100, 200];
 const TRAINS: [usize; 3] = [8, 16, 32];
 
+/// The timed calls, as the table has them.
+const CALLS: [&str; 4] = ["listing", "choosing by the last", "choosing by the first", "checking"];
+
+/// The figures of a sheet, in microseconds a call.
+struct Figures {
+    calls: [Timed; CALLS.len()],
+    /// What the product's checking takes beyond its listing, where one round is made.
+    beyond: f64,
+}
+
 fn main() {
     let mut args: Vec<String> = std::env::args().skip(1).collect();
     let mut repeats = DEFAULT_REPEATS;
@@ -39,11 +50,14 @@ fn main() {
         args.remove(0);
     }
     print_heads();
-    let ratios: Vec<f64> =
-        sheets_to_time(&args).iter().flat_map(|(name, text)| print_comparison(name, text, repeats.max(1))).collect();
+    let sheets = sheets_to_time(&args);
+    let figures: Vec<Figures> =
+        sheets.iter().filter_map(|(name, text)| print_comparison(name, text, repeats.max(1))).collect();
+    print_beyond(&figures);
     if args.is_empty() {
         print_growth(repeats.max(1));
     }
+    let ratios: Vec<f64> = figures.iter().flat_map(|sheet| &sheet.calls).map(Timed::ratio).collect();
     let within = ratios.iter().filter(|&&ratio| ratio <= MOST_RATIO).count();
     let greatest = ratios.iter().copied().fold(0.0, f64::max);
     println!("bench: {within} of {} ratios at most {MOST_RATIO}, the greatest {greatest:.2}", ratios.len());
@@ -66,28 +80,58 @@ fn sheets_to_time(paths: &[String]) -> Vec<(String, Vec<u8>)> {
 fn print_heads() {
     println!("microseconds a call: product, independent planner, and their ratio");
     print!("{:22}", "");
-    ["listing", "choosing by the last", "choosing by the first"].iter().for_each(|call| print!("{call:>27}"));
+    CALLS.iter().for_each(|call| print!("{call:>23}"));
     print!("\n{:>4} {:>3} {:>6} {:>6}", "n", "q", "pairs", "rounds");
-    (0..3).for_each(|_| print!(" {:>9} {:>9} {:>6}", "product", "indep.", "ratio"));
+    CALLS.iter().for_each(|_| print!(" {:>7} {:>8} {:>5}", "product", "indep.", "ratio"));
     println!("  sheet");
 }
 
-/// Prints one line and gives the ratios; none for a sheet without a plan.
-fn print_comparison(name: &str, text: &[u8], repeats: usize) -> Vec<f64> {
-    let Ok(reading) = read(text, Form::of(text)) else { return Vec::new() };
-    let Some(bench) = Bench::new(&reading.sheet, repeats) else { return Vec::new() };
-    let (n, q) = reading.sheet.size();
-    print!("{n:>4} {q:>3} {:>6} {:>6}", bench.pairs().len(), bench.rounds());
-    let (first, last) = (bench.pairs()[0], bench.pairs()[bench.pairs().len() - 1]);
-    let calls = [bench.time_listing(), bench.time_choosing(last), bench.time_choosing(first)];
+/// Prints one line and gives its figures; none for a sheet without a plan.
+fn print_comparison(name: &str, text: &[u8], repeats: usize) -> Option<Figures> {
+    let sheet = read(text, Form::of(text)).ok()?.sheet;
+    let bench = Bench::new(&sheet, repeats)?;
+    let (n, q) = sheet.size();
+    let (entries, pairs) = (bench.entries(), bench.entries().len());
+    print!("{n:>4} {q:>3} {pairs:>6} {:>6}", bench.rounds());
+    let (first, last) = (&entries[0], &entries[pairs - 1]);
+    let calls = [
+        bench.time_listing(),
+        bench.time_choosing(last.pair),
+        bench.time_choosing(first.pair),
+        bench.time_checking(last),
+    ];
     for timed in &calls {
-        print!(" {:>9.1} {:>9.1} {:>6.3}", timed.product, timed.independent, timed.ratio());
+        print!(" {:>7.1} {:>8.1} {:>5.3}", timed.product, timed.independent, timed.ratio());
     }
     println!("  {name}");
-    let [_, by_last, by_first] = &calls;
+    let [_, by_last, by_first, _] = &calls;
     let stops_early = 2.0 * by_first.product <= by_last.product;
-    assert!(stops_early || bench.pairs().len() < MANY_PAIRS, "choosing by the first arrival goes on: {name}");
-    calls.iter().map(Timed::ratio).collect()
+    assert!(stops_early || pairs < MANY_PAIRS, "choosing by the first arrival goes on: {name}");
+    Some(Figures { calls, beyond: beyond_listing(&sheet) })
+}
+
+/// How much longer the product's checking takes than its listing. Beside some thousand rounds that would be lost in how much they vary, so it is timed
+/// on the same sheet with one weight and one due time for all orders: there the last arrival decides the lateness too, and one round is made.
+fn beyond_listing(sheet: &Sheet) -> f64 {
+    let (n, _) = sheet.size();
+    let orders = Orders { due: vec![0; n], weight: vec![1; n], ..sheet.orders.clone() };
+    let sheet = Sheet { orders, ..sheet.clone() };
+    let bench = Bench::new(&sheet, DEFAULT_REPEATS).expect("the first round is the same");
+    assert_eq!(bench.rounds(), 1, "{sheet:?}");
+    bench.beyond_listing(&bench.entries()[0])
+}
+
+/// Prints how much longer the product's checking takes than its listing, if any sheet was timed.
+fn print_beyond(figures: &[Figures]) {
+    let mut beyond: Vec<f64> = figures.iter().map(|sheet| sheet.beyond).collect();
+    beyond.sort_by(f64::total_cmp);
+    let (Some(least), Some(most)) = (beyond.first(), beyond.last()) else { return };
+    let middle = beyond[beyond.len() / 2];
+    let all = |call: usize| figures.iter().map(|sheet| sheet.calls[call].product).sum::<f64>() / 1e3;
+    print!("product, all sheets: listing {:.1} ms, checking {:.1} ms; ", all(0), all(3));
+    println!(
+        "with one weight and due time, in one round, checking takes {middle:.1} us more ({least:.1} to {most:.1})"
+    );
 }
 
 /// Prints the time per round of both planners' listing against n and q, on ladders.

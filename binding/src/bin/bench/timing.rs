@@ -1,9 +1,12 @@
 //! One sheet, timed.
 
-use binding::areas::{PairsArea, PlanAreas};
+use binding::areas::{CheckAreas, PairsArea, PlanAreas};
 use binding::exported::ExportedSheet;
-use native::plan::{Listing, Pair};
-use native::planner::{choose_in, list, list_in};
+use native::admission::admit;
+use native::checking::{check_in, Checked, ForeignPlan};
+use native::plan::{Entry, Pair};
+use native::planner::{choose_in, list_in, Counts};
+use native::search::{search, Recorded};
 use native::sheet::Sheet;
 use std::hint::black_box;
 use std::time::{Duration, Instant};
@@ -18,46 +21,56 @@ pub struct Timed {
 }
 
 impl Timed {
+    /// Each figure is the median of the turns.
+    fn of(turns: Vec<(f64, f64)>) -> Timed {
+        let (product, independent) = turns.into_iter().unzip();
+        Timed { product: median(product), independent: median(independent) }
+    }
+
     pub fn ratio(&self) -> f64 {
         self.product / self.independent
     }
 }
 
-/// A sheet with what is listed of it.
+/// A sheet with its listed pairs and their plans.
 pub struct Bench<'a> {
     sheet: &'a Sheet,
     exported: ExportedSheet,
-    listing: Listing,
+    recorded: Recorded,
     repeats: usize,
 }
 
 impl Bench<'_> {
     /// None for a sheet without a plan.
     pub fn new(sheet: &Sheet, repeats: usize) -> Option<Bench<'_>> {
-        Some(Bench { sheet, exported: sheet.into(), listing: list(sheet).ok()?, repeats })
+        admit(sheet).ok()?;
+        Some(Bench { sheet, exported: sheet.into(), recorded: search(sheet).ok()?, repeats })
     }
 
-    pub fn pairs(&self) -> &[Pair] {
-        &self.listing.pairs
+    /// By rising arrival.
+    pub fn entries(&self) -> &[Entry] {
+        &self.recorded.entries
     }
 
     pub fn rounds(&self) -> usize {
-        self.listing.rounds
+        self.recorded.rounds
+    }
+
+    fn counts(&self) -> Counts {
+        Counts { pairs: self.entries().len(), rounds: self.rounds() }
     }
 
     /// Both must list as many pairs in as many rounds.
     pub fn time_listing(&self) -> Timed {
-        let Bench { sheet, exported, listing, repeats } = self;
+        let Bench { sheet, exported, repeats, .. } = self;
         let (n, q) = sheet.size();
         let mut area = PairsArea::of_length(PairsArea::least(n, q));
         let mut pairs = vec![Pair::default(); n * q];
-        let reply = exported.list_in(&mut area);
-        assert_eq!((reply.pairs, reply.rounds), (listing.pairs.len(), listing.rounds), "{sheet:?}");
-        in_turns(
-            *repeats,
-            || _ = black_box(black_box(exported).list_in(&mut area)),
-            || _ = black_box(list_in(black_box(sheet), &mut pairs)),
-        )
+        let (turns, reply, counts) =
+            in_turns(*repeats, || black_box(exported).list_in(&mut area), || list_in(black_box(sheet), &mut pairs));
+        assert_eq!(Counts { pairs: reply.pairs, rounds: reply.rounds }, self.counts(), "{sheet:?}");
+        assert_eq!(counts, Ok(self.counts()), "{sheet:?}");
+        Timed::of(turns)
     }
 
     /// By the arrival of a listed pair, which both must choose.
@@ -68,34 +81,78 @@ impl Bench<'_> {
         let mut areas = PlanAreas::of_lengths(lengths);
         let (mut train_of_order, mut times) = (vec![0; lengths[0]], vec![0; lengths[1]]);
         let wish = pair.arrival;
-        let reply = exported.choose_in(wish, &mut areas);
-        assert_eq!((reply.last, reply.worst), (pair.arrival, pair.lateness), "{sheet:?}");
-        assert_eq!(choose_in(sheet, wish, &mut train_of_order, &mut times), Ok(pair), "{sheet:?}");
-        in_turns(
+        let (turns, reply, chosen) = in_turns(
             *repeats,
-            || _ = black_box(black_box(exported).choose_in(wish, &mut areas)),
-            || _ = black_box(choose_in(black_box(sheet), wish, &mut train_of_order, &mut times)),
-        )
+            || black_box(exported).choose_in(wish, &mut areas),
+            || choose_in(black_box(sheet), wish, &mut train_of_order, &mut times),
+        );
+        assert_eq!(Pair { arrival: reply.last, lateness: reply.worst }, pair, "{sheet:?}");
+        assert_eq!(chosen, Ok(pair), "{sheet:?}");
+        Timed::of(turns)
+    }
+
+    /// Of the plan of a listed pair, told in rows: both must say that it is a schedule and that this pair is its own and listed.
+    pub fn time_checking(&self, Entry { pair, plan }: &Entry) -> Timed {
+        let Bench { sheet, exported, repeats, .. } = self;
+        let (n, q) = sheet.size();
+        let plan = ForeignPlan::from(plan);
+        let mut areas = CheckAreas::holding(&plan, PairsArea::least(n, q));
+        let mut pairs = vec![Pair::default(); n * q];
+        let (turns, reply, checked) = in_turns(
+            *repeats,
+            || black_box(exported).check_in(&mut areas),
+            || check_in(black_box(sheet), &plan, &mut pairs),
+        );
+        assert_eq!(reply.cause.number, 0, "{sheet:?}");
+        let said = Checked {
+            pair: Pair { arrival: reply.last, lateness: reply.worst },
+            listed: reply.listed,
+            counts: Counts { pairs: reply.pairs, rounds: reply.rounds },
+        };
+        let expected = Checked { pair: *pair, listed: true, counts: self.counts() };
+        assert_eq!((said, checked), (expected, Ok(expected)), "{sheet:?}");
+        Timed::of(turns)
+    }
+
+    /// How many microseconds longer than its listing the product's checking of this plan takes: the median of the turns.
+    pub fn beyond_listing(&self, Entry { plan, .. }: &Entry) -> f64 {
+        let Bench { sheet, exported, repeats, .. } = self;
+        let (n, q) = sheet.size();
+        let mut area = PairsArea::of_length(PairsArea::least(n, q));
+        let mut areas = CheckAreas::holding(&plan.into(), PairsArea::least(n, q));
+        let (turns, listing, check) =
+            in_turns(*repeats, || black_box(exported).list_in(&mut area), || black_box(exported).check_in(&mut areas));
+        assert_eq!((check.pairs, check.rounds), (listing.pairs, listing.rounds), "{sheet:?}");
+        median(turns.into_iter().map(|(listing, checking)| checking - listing).collect())
     }
 }
 
-/// The two take turns, and each figure is the median of the turns.
-fn in_turns(repeats: usize, mut product: impl FnMut(), mut independent: impl FnMut()) -> Timed {
-    let turns: Vec<(f64, f64)> = (0..repeats).map(|_| (micros(&mut product), micros(&mut independent))).collect();
-    let (product, independent) = turns.into_iter().unzip();
-    Timed { product: median(product), independent: median(independent) }
+/// Two calls take turns. Gives the microseconds a call of both in each turn, and the last reply of each.
+fn in_turns<A, B>(
+    repeats: usize,
+    mut first: impl FnMut() -> A,
+    mut second: impl FnMut() -> B,
+) -> (Vec<(f64, f64)>, A, B) {
+    let mut turns = Vec::new();
+    loop {
+        let ((one, reply), (other, answer)) = (micros(&mut first), micros(&mut second));
+        turns.push((one, other));
+        if turns.len() >= repeats {
+            return (turns, reply, answer);
+        }
+    }
 }
 
-/// Microseconds a call, over as many calls as a batch takes.
-fn micros(mut call: impl FnMut()) -> f64 {
+/// Microseconds a call, over as many calls as a batch takes, and the last reply.
+fn micros<R>(mut call: impl FnMut() -> R) -> (f64, R) {
     let start = Instant::now();
     let mut calls = 0.0;
     loop {
-        call();
+        let reply = black_box(call());
         calls += 1.0;
         let passed = start.elapsed();
         if passed >= BATCH {
-            return passed.as_secs_f64() * 1e6 / calls;
+            return (passed.as_secs_f64() * 1e6 / calls, reply);
         }
     }
 }

@@ -13,7 +13,7 @@ arrivals-to-requires c κs =
     let range = windows-in-range m (s .pre .0) (s .pre .1) in
     let few = s .pre .0 .few .trains in (
       (s .pre .0 .complete .trains, few, range .gap .1),
-      (λ j l. rw (nth-at (m .running) j) at (range .running (suc j) (omega arith) l .1), λ j l. s .pre .2 j (omega (arith, few))),
+      (λ j l. rw (nth-at (m .running) j) at (range .running (suc j) (omega arith) l .1), s .pre .2),
     )
 
 pub find-arrivals-spec : {M : Type 1} → statement M

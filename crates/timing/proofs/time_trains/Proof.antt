@@ -38,7 +38,7 @@ returns c =
 
 returns-2 : tie.Need-returns-2
 returns-2 c =
-    let keeps = c .before .keeps-timetable in
+    let keeps = c .before .none-above in
     let told = c .before .before .before in
     let released = told .before .before .releases in
     let s = entry (told .before .before) in
@@ -56,7 +56,9 @@ time-trains-spec =
     (p .0 .few .orders, λ j l. let t = p .1 j l in (t .0, omega (arith, t .1, p .0 .few .trains))))
     (λ c. search needs)
     (λ c κs. (entry (c .before .before) .pre .0, c .enum-told .given .1))
-    (λ c κs. let found = left c in (entry (found .before .before .before) .pre .0, found .before .enum-told .given .1, found .find-departures .ensures .1))
+    (λ c κs. let found = left c in
+    let a = entry (found .before .before .before) .pre .0 in
+    (a, found .before .enum-told .given .1, λ j l. found .find-departures .ensures .1 j (omega (arith, a .few .trains))))
     (λ c κs. let p = entry (left (c .before) .before .before .before) .pre .0 in (p .complete .trains, p .few .trains))
     returns
     (λ c. search needs)

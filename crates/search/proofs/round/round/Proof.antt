@@ -19,12 +19,14 @@ use Rattle.model.specs.Limits.{last-arrival}
 use Rattle.rounds.specs.Timing.{stopped, timed}
 use Rattle.rounds.specs.Rounds.{loading, times}
 use Rattle.columns.specs.Columns.{UpTo, Loaded}
+use Rattle.columns.specs.ColumnLaws.{loaded-column}
 use Rattle.loading.specs.ToLoad.{ToLoad}
 use Rattle.timing.specs.Timed.{timed-in}
 use Rattle.timing.specs.declared.Times.{Times}
+use Rattle.lowering.specs.RangedLaws.{in-ranges, arrives}
 use Rattle.lowering.specs.LoweringStepLaws.{worst-taken, lower-taken}
 use Rattle.search.specs.Parts.{Begun, Counted, Graded}
-use Rattle.search.specs.PartsLaws.{begun, made-in-time, loaded-column, in-ranges, capacities, arrives, arrives-to}
+use Rattle.search.specs.PartsLaws.{begun, made-in-time, capacities, arrives-to}
 use Rattle.search.specs.RoundLaws.{round-stopped, round-made}
 use Rattle.search.specs.declared.Progress.{Progress}
 use Rattle.search.proofs.round.round.Statement.{statement}
@@ -116,7 +118,7 @@ worst-of-requires c κs =
     let m = s .args .sheet in
     let a = s .pre .0 in
     let l = train (load c) in
-    (a .complete .orders, in-ranges m a, arrives m a (its c .arrival) (in-time c) l (loaded-column (sheetOf m) l (rides (load c))))
+    (a .complete .orders, in-ranges m a, arrives m a l (its c .arrival) (loaded-column (sheetOf m) l (rides (load c))) (in-time c))
 
 lower-requires : tie.Need-lower-requires
 lower-requires c κs =
@@ -124,7 +126,7 @@ lower-requires c κs =
     let s = start (load plan) in
     let m = s .args .sheet in
     let a = s .pre .0 in
-    (in-ranges m a, arrives-to m a (its plan .arrival) (in-time plan) (progress s .latest) (begins s .latest))
+    (in-ranges m a, arrives-to m a (its plan .arrival) (progress s .latest) (in-time plan) (begins s .latest))
 
 -- where it is graded
 module _ (c : tie.After-struct-told) where

@@ -1,0 +1,6 @@
+pub mod Checking
+pub mod Judging
+pub mod ListedLaws
+pub mod JudgingLaws
+pub mod CheckingLaws
+pub mod OwnPlans
