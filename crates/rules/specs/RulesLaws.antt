@@ -49,8 +49,8 @@ spaced-more gap departure (suc i) l =
 -- ---- the departures
 
 -- of two columns neither is above the other exactly where they are the same
-pub neither-above : (f g : ℕ → ℕ) (q : ℕ) → (each (λ i. leb (f i) (g i)) q && each (λ i. leb (g i) (f i)) q) ≡ each (λ i. eqb (f i) (g i)) q
-neither-above f g q =
+pub each-same : (f g : ℕ → ℕ) (q : ℕ) → (each (λ i. leb (f i) (g i)) q && each (λ i. leb (g i) (f i)) q) ≡ each (λ i. eqb (f i) (g i)) q
+each-same f g q =
     same-test _ _
     (decides-iff (λ x i l m. let a = x .0 i l m in let b = x .1 i l m in omega (arith, a, b))
     (λ e. (λ i l m. omega (arith, e i l m), λ i l m. omega (arith, e i l m)))
