@@ -1,6 +1,7 @@
 /* Joshkamber's calls for C. Link with libcapi.a, which `rt staticlib capi` writes to target/staticlib (x86-64 Linux).
  *
- * Every call returns, asks nothing of its arguments but valid memory, and keeps nothing between calls. What each promises is stated and proved in
+ * Every call returns, asks nothing of its arguments but valid memory, and keeps nothing between calls: a search that is moved round by round has
+ * its place in a state, which each of its calls gives back and the caller hands to the next. What each call promises is stated and proved in
  * crates/capi/src.
  *
  * Lent memory does not overlap and is not touched by others during a call. A pointer is never null, not even with length 0.
@@ -114,6 +115,34 @@ typedef struct {
     size_t rounds;
 } joshkamber_check;
 
+/* Where a search that is moved round by round stands between two calls. The caller holds it by value. `pairs`, how many pairs are recorded so far,
+ * `rounds`, how many rounds were made, and `ended`, which is 0 while the search goes on, may be read; the rest is the search's own. */
+typedef struct {
+    size_t pairs;
+    size_t rounds;
+    int64_t limit;
+    uint32_t last;
+    uint8_t ended;
+    uint8_t order[JOSHKAMBER_MOST_ORDERS];
+    uint8_t latest[JOSHKAMBER_MOST_ORDERS];
+} joshkamber_state;
+
+/* What a start gives: the state before the first round, or the cause beside noughts. */
+typedef struct {
+    joshkamber_cause cause;
+    joshkamber_state state;
+} joshkamber_start;
+
+/* What a round call gives: the next state, and whether the search has ended; then how many pairs are listed and how many rounds were made, or the
+ * cause beside 0 and 0. */
+typedef struct {
+    joshkamber_cause cause;
+    bool ended;
+    size_t pairs;
+    size_t rounds;
+    joshkamber_state state;
+} joshkamber_round;
+
 /* Reads a text. Refusals 1 to 7. */
 joshkamber_windows_read joshkamber_read_windows(const uint8_t *text, size_t length);
 joshkamber_timetable_read joshkamber_read_timetable(const uint8_t *text, size_t length);
@@ -166,6 +195,55 @@ joshkamber_check joshkamber_check_windows(joshkamber_window_sheet sheet, const u
                                           const joshkamber_row *rows, size_t rows_length, int64_t *pairs, size_t pairs_length);
 joshkamber_check joshkamber_check_timetable(joshkamber_timetable_sheet sheet, const uint32_t *departures, size_t departures_length,
                                             const joshkamber_row *rows, size_t rows_length, int64_t *pairs, size_t pairs_length);
+
+/* A search that is watched: it is started, moved by one round a call, and looked at between rounds. In the end it has listed what listing lists,
+ * and given the plan that choosing gives for the last listed arrival.
+ *
+ * Who owns what. The state is the caller's: it goes into a call by value and comes back by value, and between calls nobody but the caller touches
+ * it. The sheet and the three areas belong to one search from its start to its last call: each call is given the same ones, and the state that the
+ * call before gave back. Between calls the caller may read the areas, and writes nothing there. Searches with areas of their own may take turns.
+ *
+ * The areas, for n orders and q trains, with their lengths in elements:
+ *
+ *    pairs            at least 2 n q    last arrival and worst weighted lateness of each pair recorded so far, by rising arrival
+ *    train_of_order   at least n        the train, from 1, of each order in the plan of the pair recorded last
+ *    times            at least 3 q      departure, arrival and window of each train in that plan
+ *
+ * Only round calls write, and only the front of each area (2 elements for each pair, n and 3 q). Nothing outside the given areas is ever written,
+ * whatever a call is given. */
+
+/* Starts a search: tests the sheet and the lengths of all three areas, makes no round and changes nothing. Refusals 2, 4 to 7 and 10. */
+joshkamber_start joshkamber_start_windows(joshkamber_window_sheet sheet, const int64_t *pairs, size_t pairs_length,
+                                          const uint8_t *train_of_order, size_t train_of_order_length, const uint32_t *times,
+                                          size_t times_length);
+joshkamber_start joshkamber_start_timetable(joshkamber_timetable_sheet sheet, const int64_t *pairs, size_t pairs_length,
+                                            const uint8_t *train_of_order, size_t train_of_order_length, const uint32_t *times,
+                                            size_t times_length);
+
+/* Moves a search by one round. If the round finds a better plan, its pair is written behind the others, or over the last one if that has the same
+ * arrival, and the plan over the one before; else nothing is written. What is said:
+ *
+ *    not `ended`                  the search goes on
+ *    `ended`, cause number 0      it has ended, with `pairs` and `rounds` as listing gives them; the areas hold the list and the last pair's plan
+ *    `ended`, cause number 8      there is no schedule: the first round says so, and the areas are as they were lent
+ *
+ * The call that makes the last round says that the search has ended, within n q calls. A further call changes nothing and says the end again. There
+ * is no other refusal: 9 is never met.
+ *
+ * If state, sheet and areas are not those of one search, the call returns all the same. It tells by a sheet or an area that fails the tests of a
+ * start, by counts that are none of a search on this sheet and, while `state.ended` is 0, by orders that are not ranked as on this sheet and by
+ * latest trains that leave too few places. Then it says that the search has ended with 0 pairs after 0 rounds and cause number 0, as no search
+ * ends; it gives the state back unchanged and changes no area. Where it cannot tell, it makes a round or says an end, of which nothing is promised
+ * but that the pairs told of lie in the area. */
+joshkamber_round joshkamber_round_windows(joshkamber_state state, joshkamber_window_sheet sheet, int64_t *pairs, size_t pairs_length,
+                                          uint8_t *train_of_order, size_t train_of_order_length, uint32_t *times, size_t times_length);
+joshkamber_round joshkamber_round_timetable(joshkamber_state state, joshkamber_timetable_sheet sheet, int64_t *pairs, size_t pairs_length,
+                                            uint8_t *train_of_order, size_t train_of_order_length, uint32_t *times, size_t times_length);
+
+/* How many pairs are recorded so far, for either form: they are the first ones of the pairs area. All pairs seen but the last are final. The last
+ * may yet be replaced, by one with the same arrival and a smaller lateness. A look changes nothing. It gives 0 if the state counts more pairs than
+ * the area holds. */
+size_t joshkamber_look(joshkamber_state state, const int64_t *pairs, size_t pairs_length);
 
 #ifdef __cplusplus
 }

@@ -8,6 +8,7 @@ use std::hint::black_box;
 /// How many guards stand before the lent part, and how many behind it.
 const GUARDS: usize = 8;
 
+#[derive(Clone, Debug, PartialEq, Eq)]
 pub struct Area<T> {
     elements: Vec<T>,
     guard: T,
@@ -30,6 +31,10 @@ impl<T: Copy + PartialEq> Area<T> {
         &mut self.elements[GUARDS..end]
     }
 
+    pub fn length(&self) -> usize {
+        self.elements.len() - 2 * GUARDS
+    }
+
     /// The first `count` lent elements.
     pub fn first(&self, count: usize) -> &[T] {
         &self.elements[GUARDS..GUARDS + count]
@@ -39,6 +44,13 @@ impl<T: Copy + PartialEq> Area<T> {
     pub fn guarded_but(&self, count: usize) -> bool {
         let (before, rest) = self.elements.split_at(GUARDS);
         before.iter().chain(&rest[count..]).all(|element| *element == self.guard)
+    }
+
+    /// Every element but the first `count` lent ones is as in the other.
+    pub fn same_but(&self, count: usize, other: &Area<T>) -> bool {
+        let (before, rest) = self.elements.split_at(GUARDS);
+        let (other_before, other_rest) = other.elements.split_at(GUARDS);
+        before == other_before && rest[count..] == other_rest[count..]
     }
 }
 
@@ -57,6 +69,7 @@ impl PairsArea {
 }
 
 /// What choosing is lent: a number to an order, and three to a train.
+#[derive(Clone, Debug, PartialEq, Eq)]
 pub struct PlanAreas {
     pub train_of_order: Area<u8>,
     pub times: Area<u32>,
@@ -70,6 +83,44 @@ impl PlanAreas {
     /// The least lengths for n orders and q trains.
     pub fn least(n: usize, q: usize) -> [usize; 2] {
         [n, NUMBERS_A_TRAIN * q]
+    }
+}
+
+/// What a search that is watched is lent: the areas of listing and of choosing.
+#[derive(Clone, Debug, PartialEq, Eq)]
+pub struct SearchAreas {
+    pub pairs: PairsArea,
+    pub plan: PlanAreas,
+}
+
+impl SearchAreas {
+    pub fn of_lengths([pairs, train_of_order, times]: [usize; 3]) -> SearchAreas {
+        SearchAreas { pairs: PairsArea::of_length(pairs), plan: PlanAreas::of_lengths([train_of_order, times]) }
+    }
+
+    /// The least lengths for n orders and q trains.
+    pub fn least(n: usize, q: usize) -> [usize; 3] {
+        let [train_of_order, times] = PlanAreas::least(n, q);
+        [PairsArea::least(n, q), train_of_order, times]
+    }
+
+    pub fn lengths(&self) -> [usize; 3] {
+        let SearchAreas { pairs, plan } = self;
+        [pairs.length(), plan.train_of_order.length(), plan.times.length()]
+    }
+
+    /// Nothing but the first so many elements of each was written. The compiler does not know what a call reads only.
+    pub fn guarded_but(&self, [pairs, train_of_order, times]: [usize; 3]) -> bool {
+        let SearchAreas { pairs: list, plan } = black_box(self);
+        list.guarded_but(pairs) && plan.train_of_order.guarded_but(train_of_order) && plan.times.guarded_but(times)
+    }
+
+    /// Every element but the first so many of each is as in the other.
+    pub fn same_but(&self, [pairs, train_of_order, times]: [usize; 3], other: &SearchAreas) -> bool {
+        let SearchAreas { pairs: list, plan } = black_box(self);
+        list.same_but(pairs, &other.pairs)
+            && plan.train_of_order.same_but(train_of_order, &other.plan.train_of_order)
+            && plan.times.same_but(times, &other.plan.times)
     }
 }
 

@@ -102,6 +102,38 @@ pub struct Check {
     pub rounds: usize,
 }
 
+/// Where a search that is watched stands between two calls. Any numbers may stand in it.
+#[repr(C)]
+#[derive(Clone, Copy, Debug, PartialEq, Eq)]
+pub struct State {
+    pub pairs: usize,
+    pub rounds: usize,
+    pub limit: i64,
+    pub last: u32,
+    pub ended: u8,
+    pub order: [u8; MOST_ORDERS],
+    pub latest: [u8; MOST_ORDERS],
+}
+
+/// The state before the first round, or the cause beside noughts.
+#[repr(C)]
+#[derive(Clone, Copy, Debug, PartialEq, Eq)]
+pub struct Start {
+    pub cause: Cause,
+    pub state: State,
+}
+
+/// The next state, and whether the search has ended; then how many pairs are listed and how many rounds were made, or the cause beside 0 and 0.
+#[repr(C)]
+#[derive(Clone, Copy, Debug, PartialEq, Eq)]
+pub struct Round {
+    pub cause: Cause,
+    pub ended: bool,
+    pub pairs: usize,
+    pub rounds: usize,
+    pub state: State,
+}
+
 // A slice passes as a pointer, then a length.
 #[rustfmt::skip]
 extern "C" {
@@ -123,6 +155,23 @@ extern "C" {
     fn joshkamber_check_timetable(
         sheet: TimetableSheet, departures: *const u32, departures_length: usize, rows: *const Row, rows_length: usize, pairs: *mut i64, pairs_length: usize,
     ) -> Check;
+    fn joshkamber_start_windows(
+        sheet: WindowSheet, pairs: *const i64, pairs_length: usize, train_of_order: *const u8, train_of_order_length: usize, times: *const u32,
+        times_length: usize,
+    ) -> Start;
+    fn joshkamber_start_timetable(
+        sheet: TimetableSheet, pairs: *const i64, pairs_length: usize, train_of_order: *const u8, train_of_order_length: usize, times: *const u32,
+        times_length: usize,
+    ) -> Start;
+    fn joshkamber_round_windows(
+        state: State, sheet: WindowSheet, pairs: *mut i64, pairs_length: usize, train_of_order: *mut u8, train_of_order_length: usize, times: *mut u32,
+        times_length: usize,
+    ) -> Round;
+    fn joshkamber_round_timetable(
+        state: State, sheet: TimetableSheet, pairs: *mut i64, pairs_length: usize, train_of_order: *mut u8, train_of_order_length: usize, times: *mut u32,
+        times_length: usize,
+    ) -> Round;
+    fn joshkamber_look(state: State, pairs: *const i64, pairs_length: usize) -> usize;
 }
 
 /// Reads a text of the window form.
@@ -227,4 +276,93 @@ pub fn check_timetable(sheet: &TimetableSheet, departures: &[u32], rows: &[Row],
             pairs.len(),
         )
     }
+}
+
+/// Starts a search on a sheet of the window form, which is then moved by single rounds. For n orders and q trains the areas have at least 2 n q, n and
+/// 3 q elements; nothing but their lengths is asked for. Each call of a search is given the same sheet, the same areas, and the state that the call
+/// before gave back.
+pub fn start_windows(sheet: &WindowSheet, pairs: &[i64], train_of_order: &[u8], times: &[u32]) -> Start {
+    // SAFETY: the three pointers are not null and valid for as many elements; the call only reads them, keeps nothing, and tests the sheet and the
+    // lengths itself.
+    unsafe {
+        joshkamber_start_windows(
+            *sheet,
+            pairs.as_ptr(),
+            pairs.len(),
+            train_of_order.as_ptr(),
+            train_of_order.len(),
+            times.as_ptr(),
+            times.len(),
+        )
+    }
+}
+
+/// The same on a sheet of the timetable form.
+pub fn start_timetable(sheet: &TimetableSheet, pairs: &[i64], train_of_order: &[u8], times: &[u32]) -> Start {
+    // SAFETY: as in `start_windows`.
+    unsafe {
+        joshkamber_start_timetable(
+            *sheet,
+            pairs.as_ptr(),
+            pairs.len(),
+            train_of_order.as_ptr(),
+            train_of_order.len(),
+            times.as_ptr(),
+            times.len(),
+        )
+    }
+}
+
+/// Moves a search on a sheet of the window form by one round; after the end nothing is changed, and the end is said again. A state, a sheet or areas
+/// that are seen not to be those of the search are told as ended with 0 pairs after 0 rounds, and nothing is changed.
+pub fn round_windows(
+    state: &State,
+    sheet: &WindowSheet,
+    pairs: &mut [i64],
+    train_of_order: &mut [u8],
+    times: &mut [u32],
+) -> Round {
+    // SAFETY: the three pointers are not null, valid for reads and writes of as many elements, and lent for this call alone, so they do not overlap.
+    // The call writes in no other memory, keeps nothing, takes any state, and tests the state, the sheet and the lengths itself.
+    unsafe {
+        joshkamber_round_windows(
+            *state,
+            *sheet,
+            pairs.as_mut_ptr(),
+            pairs.len(),
+            train_of_order.as_mut_ptr(),
+            train_of_order.len(),
+            times.as_mut_ptr(),
+            times.len(),
+        )
+    }
+}
+
+/// The same on a sheet of the timetable form.
+pub fn round_timetable(
+    state: &State,
+    sheet: &TimetableSheet,
+    pairs: &mut [i64],
+    train_of_order: &mut [u8],
+    times: &mut [u32],
+) -> Round {
+    // SAFETY: as in `round_windows`.
+    unsafe {
+        joshkamber_round_timetable(
+            *state,
+            *sheet,
+            pairs.as_mut_ptr(),
+            pairs.len(),
+            train_of_order.as_mut_ptr(),
+            train_of_order.len(),
+            times.as_mut_ptr(),
+            times.len(),
+        )
+    }
+}
+
+/// How many pairs at the front of the area are recorded so far; 0 if the state counts more than the area holds.
+pub fn look(state: &State, pairs: &[i64]) -> usize {
+    // SAFETY: the pointer is not null and valid for as many elements; the call only reads them, keeps nothing, and takes any state.
+    unsafe { joshkamber_look(*state, pairs.as_ptr(), pairs.len()) }
 }

@@ -1,8 +1,9 @@
 //! Sheets as the exported calls take and give them, from and to the independent implementation's sheets.
 
-use crate::areas::{CheckAreas, PairsArea, PlanAreas};
+use crate::areas::{CheckAreas, PairsArea, PlanAreas, SearchAreas};
 use crate::calls::{check_timetable, check_windows, choose_timetable, choose_windows, list_timetable, list_windows};
-use crate::calls::{Check, Choice, Listing, TimetableSheet, WindowSheet};
+use crate::calls::{round_timetable, round_windows, start_timetable, start_windows};
+use crate::calls::{Check, Choice, Listing, Round, Start, State, TimetableSheet, WindowSheet};
 use native::sheet::{Orders, Paths, Sheet, Timetable, Windows};
 
 /// Stands behind the elements of a column, where it is not read. No sheet may have it.
@@ -35,6 +36,24 @@ impl ExportedSheet {
         match self {
             ExportedSheet::Windows(sheet) => check_windows(sheet, departures, rows, pairs),
             ExportedSheet::Timetable(sheet) => check_timetable(sheet, departures, rows, pairs),
+        }
+    }
+
+    pub fn start_in(&self, areas: &mut SearchAreas) -> Start {
+        let SearchAreas { pairs, plan } = areas;
+        let (pairs, train_of_order, times) = (pairs.lent(), plan.train_of_order.lent(), plan.times.lent());
+        match self {
+            ExportedSheet::Windows(sheet) => start_windows(sheet, pairs, train_of_order, times),
+            ExportedSheet::Timetable(sheet) => start_timetable(sheet, pairs, train_of_order, times),
+        }
+    }
+
+    pub fn round_in(&self, state: &State, areas: &mut SearchAreas) -> Round {
+        let SearchAreas { pairs, plan } = areas;
+        let (pairs, train_of_order, times) = (pairs.lent(), plan.train_of_order.lent(), plan.times.lent());
+        match self {
+            ExportedSheet::Windows(sheet) => round_windows(state, sheet, pairs, train_of_order, times),
+            ExportedSheet::Timetable(sheet) => round_timetable(state, sheet, pairs, train_of_order, times),
         }
     }
 }

@@ -3,7 +3,7 @@
 
 use crate::admission::admit;
 use crate::plan::{Listing, Pair};
-use crate::planner::{list_in, room, Counts};
+use crate::planner::{holds_pairs, list_in, room, Counts};
 use crate::refusal::*;
 use crate::sheet::{Paths, Sheet, Windows};
 
@@ -34,10 +34,7 @@ pub struct Checked {
 /// Checks a plan, and lists the pairs in the first elements of a lent area; nothing is written where the call refuses. The list is made last.
 pub fn check_in(sheet: &Sheet, plan: &ForeignPlan, pairs: &mut [Pair]) -> Result<Checked, Refusal> {
     admit(sheet)?;
-    let (n, q) = sheet.size();
-    if pairs.len() < n * q {
-        return Err(Refusal::of_all(AREA_TOO_SHORT));
-    }
+    holds_pairs(sheet, pairs.len())?;
     let pair = foreign_pair(sheet, plan)?;
     let counts = list_in(sheet, pairs)?;
     Ok(Checked { pair, listed: pairs[..counts.pairs].contains(&pair), counts })

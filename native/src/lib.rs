@@ -1,5 +1,5 @@
-//! An independent reader, planner and checker, written from documents 01 and 02 alone, and what tests it: the rounds word for word, a listing of
-//! every loading and of every schedule, drawn sheets, damaged texts and damaged plans.
+//! An independent reader, planner, checker and search by single rounds, written from documents 01 and 02 alone, and what tests it: the rounds word for
+//! word, a listing of every loading and of every schedule, drawn sheets, damaged texts and damaged plans.
 
 pub mod admission;
 pub mod agreement;
@@ -10,6 +10,7 @@ pub mod climb;
 pub mod damage;
 pub mod draw;
 pub mod every_plan;
+pub mod finality;
 pub mod foreign;
 pub mod ladder;
 pub mod limits;
@@ -26,5 +27,6 @@ pub mod search;
 pub mod sheet;
 pub mod stored;
 pub mod trace;
+pub mod watching;
 pub mod wishes;
 pub mod write;

@@ -17,10 +17,7 @@ pub struct Counts {
 /// Lists the pairs in the first elements of a lent area; nothing is written where the call refuses.
 pub fn list_in(sheet: &Sheet, pairs: &mut [Pair]) -> Result<Counts, Refusal> {
     admit(sheet)?;
-    let (n, q) = sheet.size();
-    if pairs.len() < n * q {
-        return Err(Refusal::of_all(AREA_TOO_SHORT));
-    }
+    holds_pairs(sheet, pairs.len())?;
     let Recorded { entries, rounds } = search(sheet)?;
     for (area, entry) in pairs.iter_mut().zip(&entries) {
         *area = entry.pair;
@@ -32,15 +29,35 @@ pub fn list_in(sheet: &Sheet, pairs: &mut [Pair]) -> Result<Counts, Refusal> {
 /// times has three numbers a train: departure, arrival, window.
 pub fn choose_in(sheet: &Sheet, wish: u32, train_of_order: &mut [u8], times: &mut [u32]) -> Result<Pair, Refusal> {
     admit(sheet)?;
-    let (n, q) = sheet.size();
-    if train_of_order.len() < n || times.len() < NUMBERS_A_TRAIN * q {
-        return Err(Refusal::of_all(AREA_TOO_SHORT));
-    }
+    holds_plan(sheet, train_of_order.len(), times.len())?;
     let recorded = search(sheet)?;
     let Entry { pair, plan } = recorded.chosen(wish)?;
-    train_of_order[..n].copy_from_slice(&plan.train_of_order);
-    times[..NUMBERS_A_TRAIN * q].copy_from_slice(&time_numbers(&plan.times));
+    put_first(&plan.train_of_order, train_of_order);
+    put_first(&time_numbers(&plan.times), times);
     Ok(*pair)
+}
+
+/// Test 10 of the pairs.
+pub fn holds_pairs(sheet: &Sheet, pairs: usize) -> Result<(), Refusal> {
+    let (n, q) = sheet.size();
+    if pairs < n * q {
+        return Err(Refusal::of_all(AREA_TOO_SHORT));
+    }
+    Ok(())
+}
+
+/// Test 10 of a plan.
+pub fn holds_plan(sheet: &Sheet, train_of_order: usize, times: usize) -> Result<(), Refusal> {
+    let (n, q) = sheet.size();
+    if train_of_order < n || times < NUMBERS_A_TRAIN * q {
+        return Err(Refusal::of_all(AREA_TOO_SHORT));
+    }
+    Ok(())
+}
+
+/// Writes the first elements of a lent area.
+pub fn put_first<T: Copy>(elements: &[T], area: &mut [T]) {
+    area[..elements.len()].copy_from_slice(elements);
 }
 
 /// Lists with an area of its own.

@@ -1,4 +1,4 @@
-//! The rounds of an admitted sheet, for benchmarks and comparison.
+//! The rounds of an admitted sheet, for benchmarks and comparison; unbroken for listing, choosing and checking, or one by one.
 //! While they run, two bytes are kept for each order, its train and its latest train; and, for choosing, the plan of every listed pair.
 
 use crate::limits::*;
@@ -25,32 +25,89 @@ impl Recorded {
     }
 }
 
-/// Every round, with the plan of each listed pair kept. The round limit is never met.
-pub fn search(sheet: &Sheet) -> Result<Recorded, Refusal> {
-    let Sheet { capacity, orders, paths } = sheet;
-    let (n, q) = sheet.size();
-    let (mut train, mut latest) = ([0; MOST_ORDERS], [q as u8; MOST_ORDERS]);
-    let (train, latest) = (&mut train[..n], &mut latest[..n]);
-    let (mut greatest, mut times) = ([0; MOST_TRAINS], [Times::default(); MOST_TRAINS]);
-    let (greatest, times) = (&mut greatest[..q], &mut times[..q]);
-    let mut limit = i64::MAX;
-    let mut entries = Vec::new();
-    for rounds in 1..=n * q {
+/// A search between two rounds.
+#[derive(Clone, Debug, PartialEq, Eq)]
+pub struct Search {
+    /// Of each order: its train in the last round, and its latest train.
+    train: Vec<u8>,
+    latest: Vec<u8>,
+    /// Of each train, in the last round: the greatest release on it, and its times.
+    greatest: Vec<u32>,
+    times: Vec<Times>,
+    limit: i64,
+    /// The arrival of the pair recorded last.
+    last: Option<u32>,
+    rounds: usize,
+    stopped: bool,
+}
+
+/// What a round recorded.
+pub struct Better<'a> {
+    pub pair: Pair,
+    /// The pair before it has the same arrival, and is replaced.
+    pub replaces: bool,
+    pub train_of_order: &'a [u8],
+    pub times: &'a [Times],
+}
+
+impl Search {
+    /// Before the first round: every order may ride the last train.
+    pub fn start(sheet: &Sheet) -> Search {
+        let (n, q) = sheet.size();
+        let (train, latest) = (vec![0; n], vec![q as u8; n]);
+        let (greatest, times) = (vec![0; q], vec![Times::default(); q]);
+        Search { train, latest, greatest, times, limit: i64::MAX, last: None, rounds: 0, stopped: false }
+    }
+
+    /// One round; gives what it recorded, if anything.
+    pub fn round(&mut self, sheet: &Sheet) -> Option<Better<'_>> {
+        let Sheet { capacity, orders, paths } = sheet;
+        let Search { train, latest, greatest, times, .. } = self;
+        self.rounds += 1;
         load(&orders.release, capacity, latest, train, greatest);
-        if !run(paths, greatest, times) {
-            return if rounds == 1 { Err(Refusal::of_all(NO_SCHEDULE)) } else { Ok(Recorded { entries, rounds }) };
+        self.stopped = !run(paths, greatest, times);
+        if self.stopped {
+            return None;
         }
-        let worst = worst_lateness(orders, train, times);
-        if worst < limit {
-            limit = worst;
-            record(&mut entries, worst, train, times);
+        let pair = Pair { arrival: times[times.len() - 1].arrival, lateness: worst_lateness(orders, train, times) };
+        let better = pair.lateness < self.limit;
+        let replaces = self.last == Some(pair.arrival);
+        if better {
+            self.limit = pair.lateness;
+            self.last = Some(pair.arrival);
         }
-        lower(orders, times, limit, latest);
-        if crowded(capacity, latest) {
-            return Ok(Recorded { entries, rounds });
+        lower(orders, times, self.limit, latest);
+        self.stopped = crowded(capacity, latest);
+        better.then_some(Better { pair, replaces, train_of_order: train, times })
+    }
+
+    /// Whether a further round is made: none after a stop, and none beyond n x q.
+    pub fn goes_on(&self, sheet: &Sheet) -> bool {
+        let (n, q) = sheet.size();
+        !self.stopped && self.rounds < n * q
+    }
+
+    /// What a search that no longer goes on comes to: how many rounds were made; refused with 9 where the limit cut it off, which never happens,
+    /// and with 8 where nothing is recorded.
+    pub fn end(&self) -> Result<usize, Refusal> {
+        match (self.stopped, self.last) {
+            (false, _) => Err(Refusal::of_all(ROUND_LIMIT)),
+            (true, None) => Err(Refusal::of_all(NO_SCHEDULE)),
+            (true, Some(_)) => Ok(self.rounds),
         }
     }
-    Err(Refusal::of_all(ROUND_LIMIT))
+}
+
+/// Every round, with the plan of each listed pair kept.
+pub fn search(sheet: &Sheet) -> Result<Recorded, Refusal> {
+    let mut search = Search::start(sheet);
+    let mut entries = Vec::new();
+    while search.goes_on(sheet) {
+        if let Some(better) = search.round(sheet) {
+            record(&mut entries, better);
+        }
+    }
+    search.end().map(|rounds| Recorded { entries, rounds })
 }
 
 /// Marks an order that waits: its byte holds this plus its latest train.
@@ -136,12 +193,11 @@ fn worst_lateness(orders: &Orders, train: &[u8], times: &[Times]) -> i64 {
 }
 
 /// Step 3, where the worst lateness is below the limit: an entry with the same last arrival as the one before replaces it.
-fn record(entries: &mut Vec<Entry>, worst: i64, train: &[u8], times: &[Times]) {
-    let pair = Pair { arrival: times[times.len() - 1].arrival, lateness: worst };
-    if entries.last().is_some_and(|last| last.pair.arrival == pair.arrival) {
+fn record(entries: &mut Vec<Entry>, Better { pair, replaces, train_of_order, times }: Better) {
+    if replaces {
         entries.pop();
     }
-    entries.push(Entry { pair, plan: Plan { train_of_order: train.to_vec(), times: times.to_vec() } });
+    entries.push(Entry { pair, plan: Plan { train_of_order: train_of_order.to_vec(), times: times.to_vec() } });
 }
 
 /// Step 4.

@@ -21,6 +21,15 @@ pub struct Trace {
     pub outcomes: Vec<Outcome>,
     /// The listed pairs with their plans.
     pub entries: Vec<Entry>,
+    /// The pairs listed by the end of each round.
+    pub lists: Vec<Vec<Pair>>,
+}
+
+impl Trace {
+    fn end_round(&mut self, outcome: Outcome) {
+        self.outcomes.push(outcome);
+        self.lists.push(self.entries.iter().map(|entry| entry.pair).collect());
+    }
 }
 
 pub fn trace(sheet: &Sheet) -> Trace {
@@ -31,7 +40,7 @@ pub fn trace(sheet: &Sheet) -> Trace {
     loop {
         let loads = load(sheet, &latest);
         let Some(times) = times_of(sheet, &loads) else {
-            trace.outcomes.push(Outcome::Stopped);
+            trace.end_round(Outcome::Stopped);
             return trace;
         };
         let train = train_of_order(&loads, n);
@@ -41,7 +50,7 @@ pub fn trace(sheet: &Sheet) -> Trace {
             limit = Some(worst);
             record(&mut trace, worst, Plan { train_of_order: train, times: times.clone() });
         } else {
-            trace.outcomes.push(Outcome::Nothing);
+            trace.end_round(Outcome::Nothing);
         }
         let below = |j: usize, i: usize| limit.is_some_and(|y| sheet.orders.lateness(j, times[i - 1].arrival) < y);
         for (j, last) in latest.iter_mut().enumerate() {
@@ -115,8 +124,8 @@ fn record(trace: &mut Trace, worst: i64, plan: Plan) {
     if replaces {
         trace.entries.pop();
     }
-    trace.outcomes.push(if replaces { Outcome::Replaced } else { Outcome::Listed });
     trace.entries.push(Entry { pair, plan });
+    trace.end_round(if replaces { Outcome::Replaced } else { Outcome::Listed });
 }
 
 /// Step 5.

@@ -4,3 +4,5 @@ pub mod ExportedPlanning
 pub mod ExportedPlanningLaws
 pub mod ExportedChecking
 pub mod ExportedCheckingLaws
+pub mod ExportedWatching
+pub mod ExportedWatchingLaws

@@ -2,6 +2,7 @@
 // `checking`, checking one. Not exported are a name as a part of the text, the tests of a sheet alone, and printing. The calls take and return numbers,
 // slices (in C a pointer, then a length) and structs laid out as in C, and ask nothing of their caller. include/joshkamber.h declares them.
 pub mod checking;
+pub mod watching;
 
 use fields::NamePlace;
 use model::Admission;

@@ -1,7 +1,7 @@
 -- THE ROUNDS LIST THE MODEL'S PARETO FRONT. Sheets, schedules and pairs are those of `model`, rounds and answers those of `rounds`; what holds of
--- an entry stands in rounds/specs/EntryPlan.antt, of a chosen pair in ChosenPair.antt, and `rounds-bound` in RoundsBound.antt. Each theorem cites a law
--- of another file, and assumes nothing.
-use mathlib.Core.Path.{_≡_}
+-- an entry stands in rounds/specs/EntryPlan.antt, of a chosen pair in ChosenPair.antt, the calls of a search in ByRound.antt, and `rounds-bound` in
+-- RoundsBound.antt. Each theorem cites laws of other files, and assumes nothing.
+use mathlib.Core.Path.{_≡_, ap, _∙_}
 use mathlib.Core.Logic.{_↔_}
 use mathlib.Core.Bool.{true}
 use mathlib.Core.List.{List}
@@ -18,14 +18,17 @@ use Rattle.model.specs.Foreign.{RowsFit, trains-told, RowsTell, rows-of}
 use Rattle.model.specs.Admission.{Admitted}
 use Rattle.model.specs.declared.Row.{Row}
 use Rattle.model.specs.declared.Refusal.the-variants.{NoSchedule, RoundLimit, WishTooEarly, WrongRows, RuleBroken}
+use Rattle.model.specs.declared.RoundReply.the-variants.{GoesOn}
 use Rattle.rounds.specs.Timing.{stopped, timed}
-use Rattle.rounds.specs.Recording.{Entry, entry-at, last-entry, recorded-arrival}
+use Rattle.rounds.specs.Recording.{Entry, listed, entry-at, last-entry, recorded-arrival}
 use Rattle.rounds.specs.EntryPlan.{EntryPlan, EntryBooked}
 use Rattle.rounds.specs.ChosenPair.{LastInTime, Best, TooEarly, Unbeaten}
 use Rattle.rounds.specs.Rounds.{going, ended, recorded-in, start, loading, times, first-timing, rounds, recorded-after, search}
 use Rattle.rounds.specs.RoundsBound.{rounds-bound}
-use Rattle.rounds.specs.Answers.{refused, given, Listing, list, last-arrival-in, choose}
+use Rattle.rounds.specs.Answers.{refused, given, Listing, list, last-arrival-in, last-listed, choose}
+use Rattle.rounds.specs.Areas.{list-left, plan-left}
 use Rattle.rounds.specs.Checking.{Verdict, check}
+use Rattle.rounds.specs.ByRound.{SearchAreas, Calls, then-round, then-look, round-calls, Then, search-by, seen, end-of, said, areas-by, Final}
 use Rattle.rounds.specs.SumLaws.{within-limit}
 use Rattle.rounds.specs.PairListLaws.{apart}
 use Rattle.rounds.specs.InvariantLaws.{entry-plans, entry-booked, reached, earliest-plan}
@@ -34,6 +37,9 @@ use Rattle.rounds.specs.AnswerLaws.{listed-so, eight-means, eight-given, eight-
 use Rattle.rounds.specs.ChosenLaws.{choice-best, chosen-so, eleven-chosen, eleven-before-first, nine-never-chosen}
 use Rattle.rounds.specs.ChoosingLaws.{booked-chosen, eight-chosen, eight-chosen-stops, listed-chosen, last-recorded-chosen}
 use Rattle.rounds.specs.CheckingLaws.{yes-so, yes-unbeaten, yes-given, twelve-given, thirteen-given, own-plan, own-rows}
+use Rattle.rounds.specs.ByRoundLaws.{seen-is, look-leaves, no-more-rounds, ends-here, end-is, said-at-end, pairs-at-end, plan-at-end}
+use Rattle.rounds.specs.ByRoundLaws as by-round
+use Rattle.rounds.specs.FinalLaws.{final}
 
 -- ---- demand 3: the listed pairs
 
@@ -178,6 +184,45 @@ own-plan-listed s a wish e u rows t = own-plan s a wish e u rows t
 pub own-rows-tell : (s : Sheet) → Admitted s → (wish : ℕ) (e : Entry) → choose s wish ≡ given e
     → RowsTell s (e .plan .train) (e .plan .departure) (rows-of (e .plan .train))
 own-rows-tell s a wish e u = own-rows s a wish e u
+
+-- ---- document 02, No. 4: a look at the list while the search runs
+
+-- "For every list of these calls after an accepted start": reading "gives the list that document 01's rounds made so far have recorded"
+pub look-gives : (s : Sheet) → Admitted s → (calls : Calls) → seen s calls ≡ listed (recorded-after s (round-calls calls))
+look-gives s a calls = seen-is s a calls
+
+-- "reading changes nothing"
+pub look-changes-nothing : (s : Sheet) (calls : Calls) → search-by s (then-look calls) ≡ search-by s calls
+look-changes-nothing s calls = look-leaves s calls
+
+-- "All pairs read but the last are final; the last may only be replaced by one with the same arrival and a smaller lateness."
+pub look-final : (s : Sheet) → Admitted s → (calls later : Calls) → Then calls later → Final (seen s calls) (seen s later)
+look-final s a calls later t = final s a calls later t
+
+-- "A further round after the end changes nothing", so that it says the same again
+pub further-round : (s : Sheet) (calls : Calls) → ¬ (said s (search-by s calls) ≡ GoesOn) → search-by s (then-round calls) ≡ search-by s calls
+further-round s calls e = no-more-rounds s calls (ends-here s (search-by s calls) e)
+
+-- "For every admitted sheet the end comes within n × q round calls"
+pub end-comes : (s : Sheet) → Admitted s → (calls : Calls) → s .orders * s .trains ≤ round-calls calls → ¬ (said s (search-by s calls) ≡ GoesOn)
+end-comes s a calls l = by-round.end-comes s a calls l
+
+-- "with the list, last plan and count of the unbroken search, or its 8 or 9"
+pub record Unbroken (s : Sheet) (calls : Calls) : Type 0 where
+  -- how many pairs and rounds, or the refusal
+  pub says : said s (search-by s calls) ≡ end-of (list s)
+  -- the areas, as found at the start, then hold the list and the plan of the pair listed last, or are as found
+  pub pairs : (found : SearchAreas) → areas-by s (search-by s calls) found .pairs ≡ list-left (list s) (found .pairs)
+  pub plan : (found : SearchAreas) → areas-by s (search-by s calls) found .plan ≡ plan-left s (choose s (last-listed (list s))) (found .plan)
+
+pub end-unbroken : (s : Sheet) → Admitted s → (calls : Calls) → ¬ (said s (search-by s calls) ≡ GoesOn) → Unbroken s calls
+end-unbroken s a calls e =
+    let there = end-is s a calls e in
+    record {
+      says = said-at-end s a calls e;
+      pairs = λ found. ap (λ x. areas-by s x found .pairs) there ∙ pairs-at-end s a found;
+      plan = λ found. ap (λ x. areas-by s x found .plan) there ∙ plan-at-end s a found;
+    }
 
 -- ---- how many rounds
 

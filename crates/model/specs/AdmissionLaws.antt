@@ -8,7 +8,7 @@ use Rattle.numbers.specs.DecidesLaws.{Decides, decides-le, decides-lt, decides-
 use Rattle.model.specs.Sheet.{Windows, Timetable, Paths, windows, timetable, Sheet, places}
 use Rattle.model.specs.Limits.{Range, Inside, inside, gap-range, window-range, capacity-range, running-range}
 use Rattle.model.specs.Limits.{departure-range, arrival-range, release-range, due-range, weight-range}
-use Rattle.model.specs.Refusal.{returned}
+use Rattle.model.specs.Refusal.{number, returned}
 use Rattle.model.specs.Admission.{Few, FewWindows, few, fewWindows, Complete, SomeWindow, complete, someWindow}
 use Rattle.model.specs.Admission.{OrderInRange, orderInRange, WindowInRange, TimesInRange, PathsInRange, pathsInRange, InRange, inRange}
 use Rattle.model.specs.Admission.{PathsInOrder, pathsInOrder, inOrder, Balanced, balanced, Admitted, passed, admission}
@@ -161,20 +161,27 @@ admitted-means s = (into, back)
           passed-on (decides-balanced s) PlacesDiffer _ (a .balanced),
         )
 
--- ---- "always with 0 returned"
+-- ---- what it refuses with
 
-module _ (r : Refusal) where
-  -- a test that refuses with 0 is passed, or refuses with 0
-  passed-returns : (b : Bool) (r′ : Refusal) (next : Admission) → returned r′ ≡ 0 → (next ≡ Refused r → returned r ≡ 0)
-      → passed b r′ next ≡ Refused r → returned r ≡ 0
-  passed-returns true r′ next z h e = h e
-  passed-returns false r′ next z h e = let same : r′ ≡ r = cc in subst (λ (x : Refusal). returned x ≡ 0) same z
+module _ (P : Refusal → Type 0) (r : Refusal) where
+  passed-refuses : (b : Bool) (r′ : Refusal) (next : Admission) → P r′ → (next ≡ Refused r → P r) → passed b r′ next ≡ Refused r → P r
+  passed-refuses true r′ next z h e = h e
+  passed-refuses false r′ next z h e = let same : r′ ≡ r = cc in subst P same z
 
-  pub admission-returns : (s : Sheet) → admission s ≡ Refused r → returned r ≡ 0
+  -- what holds of each test's refusal holds of the one that is given
+  admission-refuses : (s : Sheet) → P (TooMany 0) → P KindMissing → P (OutOfRange 0) → P (OutOfOrder 0) → P PlacesDiffer → admission s ≡ Refused r → P r
   unfolding admission
-  admission-returns s =
-      passed-returns (few s) (TooMany 0) _ refl
-      (passed-returns (complete s) KindMissing _ refl
-      (passed-returns (inRange s) (OutOfRange 0) _ refl
-      (passed-returns (inOrder s) (OutOfOrder 0) _ refl
-      (passed-returns (balanced s) PlacesDiffer _ refl (λ e. absurd (refusal-is-not r (sym e)))))))
+  admission-refuses s p₄ p₅ p₂ p₆ p₇ =
+      passed-refuses (few s) (TooMany 0) _ p₄
+      (passed-refuses (complete s) KindMissing _ p₅
+      (passed-refuses (inRange s) (OutOfRange 0) _ p₂
+      (passed-refuses (inOrder s) (OutOfOrder 0) _ p₆
+      (passed-refuses (balanced s) PlacesDiffer _ p₇ (λ e. absurd (refusal-is-not r (sym e)))))))
+
+-- "4, 5, 2, 6, 7": none with a greater number
+pub admission-numbers : (r : Refusal) (s : Sheet) → admission s ≡ Refused r → number r ≤ 7
+admission-numbers r s = admission-refuses (λ x. number x ≤ 7) r s (omega arith) (omega arith) (omega arith) (omega arith) (omega arith)
+
+-- "always with 0 returned"
+pub admission-returns : (r : Refusal) (s : Sheet) → admission s ≡ Refused r → returned r ≡ 0
+admission-returns r s = admission-refuses (λ x. returned x ≡ 0) r s refl refl refl refl refl

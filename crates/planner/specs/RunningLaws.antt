@@ -17,7 +17,9 @@ use Rattle.rounds.specs.Answers.{list-of, list}
 use Rattle.rounds.specs.Areas.{list-reply, pair-numbers, list-left}
 use Rattle.rounds.specs.Told.{ListTold}
 use Rattle.recording.specs.Recorded.{held-list, Lists, ListsMore}
-use Rattle.search.specs.Shows.{Shows, shown-entry, recorded-by, Makes, Reached}
+use Rattle.search.specs.Shows.{Shows, shown-entry, recorded-by, Makes}
+use Rattle.search.specs.Parts.{Begun}
+use Rattle.search.specs.PartsLaws as parts
 use Rattle.search.specs.RunLaws.{nothing-recorded, start-shown, next-shown, more-to-come, over-means}
 use Rattle.search.specs.declared.Progress.{Progress}
 use Rattle.planner.specs.Outcome.{listed-so}
@@ -33,8 +35,8 @@ module _ (s : Sheet) where
   pub more : Admitted s → (p : Progress) → Running s p → p .ended ≡ false → p .rounds < s .orders * s .trains
   more a p h on = more-to-come s a p on (p .rounds) (h .within) (h .shows)
 
-  pub reached : (p : Progress) → Running s p → p .rounds < s .orders * s .trains → Reached s p
-  reached p h l = record { made = p .rounds; within = l; shows = h .shows }
+  pub can-go-on : Admitted s → (p : Progress) → Running s p → p .ended ≡ false → Begun s p
+  can-go-on a p h on = parts.begun s a p (record { made = p .rounds; within = more a p h on; shows = h .shows }) on
 
   pub next : (p r : Progress) → Running s p → p .rounds < s .orders * s .trains → Makes s p r → r .rounds ≡ p .rounds + 1
       → Running s r × (recorded-now s r ≡ recorded-by s r (recorded-now s p))

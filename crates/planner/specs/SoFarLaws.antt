@@ -25,6 +25,27 @@ use Rattle.rounds.specs.Told.{areas, ChoiceTold}
 use Rattle.planner.specs.Outcome.{choice-so}
 use Rattle.planner.specs.SoFar.{Holds}
 
+-- a plan written over what the answer x has left is what its own answer leaves
+pub writes-over : (s : Sheet) (found : PlanAreas) (e : Entry) → EntryPlan s e → (x : Answer Entry) → ((e₀ : Entry) → x ≡ given e₀ → EntryPlan s e₀)
+    → (before : PlanAreas) → before ≡ plan-left s x found
+    → record {
+      trains = over (e .plan .train) (before .trains);
+      times = over (plan-times s (e .plan)) (before .times);
+    } ≡ plan-left s (given e) found
+unfolding plan-left
+writes-over s found e own (refused r) plans before is = rw is
+writes-over s found e own (given e₀) plans before is =
+    let own₀ = plans e₀ refl in
+    let same = own₀ .schedule .placed ∙ sym (own .schedule .placed) in
+    let many = plan-times-length s (e .plan) in
+    let many₀ = plan-times-length s (e₀ .plan) in
+    rw (
+      is,
+      over-over (e .plan .train) (e₀ .plan .train) (found .trains) (omega (arith, same)),
+      over-over (plan-times s (e .plan)) (plan-times s (e₀ .plan)) (found .times) (omega (arith, many, many₀)),
+    )
+    refl
+
 module _ (s : Sheet) (wish : ℕ) where
   -- before the first round nothing is chosen
   pub nothing-held : (found : PlanAreas) → Holds s wish (Refused NoSchedule) found found 0 []
@@ -43,27 +64,6 @@ module _ (s : Sheet) (wish : ℕ) where
         subst (λ (r : ChoiceReply). ChoiceTold s (chosen wish entries) r left found)
         (ap (choice-so choice) (test-true (decides-le last wish) early)) (h .told)
 
-    -- a plan written over what the answer x has left is what its own answer leaves
-    writes-over : (e : Entry) → EntryPlan s e → (x : Answer Entry) → ((e₀ : Entry) → x ≡ given e₀ → EntryPlan s e₀) → (before : PlanAreas)
-        → before ≡ plan-left s x found
-        → record {
-          trains = over (e .plan .train) (before .trains);
-          times = over (plan-times s (e .plan)) (before .times);
-        } ≡ plan-left s (given e) found
-    unfolding plan-left
-    writes-over e own (refused r) plans before is = rw is
-    writes-over e own (given e₀) plans before is =
-        let own₀ = plans e₀ refl in
-        let same = own₀ .schedule .placed ∙ sym (own .schedule .placed) in
-        let many = plan-times-length s (e .plan) in
-        let many₀ = plan-times-length s (e₀ .plan) in
-        rw (
-          is,
-          over-over (e .plan .train) (e₀ .plan .train) (found .trains) (omega (arith, same)),
-          over-over (plan-times s (e .plan)) (plan-times s (e₀ .plan)) (found .times) (omega (arith, many, many₀)),
-        )
-        refl
-
     -- what is chosen is one of the entries
     chosen-plan : All no-entry (EntryPlan s) entries → (e₀ : Entry) → chosen wish entries ≡ given e₀ → EntryPlan s e₀
     chosen-plan plans e₀ is = let h = chosen-at wish entries e₀ is in subst (EntryPlan s) (h .is) (plans (h .place) (h .among))
@@ -79,7 +79,7 @@ module _ (s : Sheet) (wish : ℕ) where
         record-all (λ x. x .pair .last ≤ wish) entries e (h .in-time early) timely in
         let is : chosen wish (record-entry entries e) ≡ given e =
         all-in-time wish (record-entry entries e) (record-lengthens entries e .not-empty) all ∙ ap given (last-recorded entries e) in
-        let written = writes-over e own (chosen wish entries) (chosen-plan plans) left (told-now .areas-left) in
+        let written = writes-over s found e own (chosen wish entries) (chosen-plan plans) left (told-now .areas-left) in
         record {
           told = rw (is, test-true (decides-le (e .pair .last) wish) timely)
               (record { replied = refl; areas-left = rw (trains-are, times-are) written });

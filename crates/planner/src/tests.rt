@@ -5,11 +5,31 @@ use model::Sheet;
 use model::limits::NUMBERS_A_PAIR;
 use model::limits::NUMBERS_A_TRAIN;
 ghost use mathlib.Core.Path.{_≡_};
-ghost use mathlib.Core.Bool.{cond};
+ghost use mathlib.Core.Bool.{_&&_, cond};
+ghost use Prim.Native.Nat.{_*_, _≤_};
+ghost use lib.Dec.{leb};
+ghost use Rattle.model.specs.Limits.{order-counts, train-counts, numbers-a-pair, numbers-a-train};
 ghost use Rattle.model.specs.Memory.{sheetOf};
 ghost use Rattle.model.specs.declared.Admission.the-variants as outcome;
 ghost use Rattle.model.specs.declared.Refusal.the-variants as cause;
 ghost use Rattle.rounds.specs.Areas.{list-room, plan-room, tested};
+ghost use Rattle.rounds.specs.ByRound.{search-room};
+
+// Whether the pairs area has room for n orders and q trains.
+fn holds_pairs(n: usize, q: usize, pairs: usize) -> bool
+    requires { ⌜ (n ≤ order-counts .most) × (q ≤ train-counts .most) ⌝ }
+    ensures { λ r. ⌜ r ≡ leb (numbers-a-pair * (n * q)) pairs ⌝ }
+{
+    NUMBERS_A_PAIR * (n * q) <= pairs
+}
+
+// Whether the areas for trains and times have room for them.
+fn holds_plan(n: usize, q: usize, trains: usize, times: usize) -> bool
+    requires { ⌜ q ≤ train-counts .most ⌝ }
+    ensures { λ r. ⌜ r ≡ (leb n trains && leb (numbers-a-train * q) times) ⌝ }
+{
+    (n <= trains) & (NUMBERS_A_TRAIN * q <= times)
+}
 
 // Test 10, where the areas have room or not.
 fn with_room(room: bool) -> Admission
@@ -29,7 +49,7 @@ pub fn for_listing(sheet: Sheet, pairs: usize) -> Admission
     let Admission::Granted = admission else {
         return admission;
     };
-    with_room(NUMBERS_A_PAIR * (sheet.order_count * sheet.train_count) <= pairs)
+    with_room(holds_pairs(sheet.order_count, sheet.train_count, pairs))
 }
 
 // For choosing, which fills the areas for trains and times.
@@ -40,5 +60,19 @@ pub fn for_choosing(sheet: Sheet, trains: usize, times: usize) -> Admission
     let Admission::Granted = admission else {
         return admission;
     };
-    with_room((sheet.order_count <= trains) & (NUMBERS_A_TRAIN * sheet.train_count <= times))
+    with_room(holds_plan(sheet.order_count, sheet.train_count, trains, times))
+}
+
+// For a search by rounds, which fills all three.
+pub fn for_search(sheet: Sheet, pairs: usize, trains: usize, times: usize) -> Admission
+    ensures { λ r. ⌜ r ≡ tested (sheetOf sheet) (search-room (sheetOf sheet) pairs trains times) ⌝ }
+{
+    let admission = admission::admit(sheet);
+    let Admission::Granted = admission else {
+        return admission;
+    };
+    with_room(
+        holds_pairs(sheet.order_count, sheet.train_count, pairs)
+            & holds_plan(sheet.order_count, sheet.train_count, trains, times),
+    )
 }

@@ -16,7 +16,8 @@ ghost use Rattle.recording.specs.Recorded.{held-list, ListsMore};
 // Lists a pair behind `count` others, the last of them with the arrival `last`, or over that one if its arrival is the same. Gives the number of pairs.
 pub fn list_pair(pairs: &mut [i64], mut count: usize, last: u32, arrival: u32, worst: i64) -> usize
     requires { ⌜ (numbers-a-pair * count + 1 < length (now pairs)) × (count < most-pairs) ⌝ }
-    ensures { λ r. ⌜ ListsMore (held-list count last (now (pairs .entry))) (held-list r arrival (now (pairs .exit))) arrival worst ⌝ }
+    ensures lists { λ r. ⌜ ListsMore (held-list count last (now (pairs .entry))) (held-list r arrival (now (pairs .exit))) arrival worst ⌝ }
+    ensures counts { λ r. ⌜ (1 ≤ r) × (r ≤ count + 1) ⌝ }
 {
     if (count > 0) & (last == arrival) {
         count -= 1;

@@ -61,19 +61,32 @@ abbrev pub of-answer : {A : Type 0} → Answer A → Admission
 of-answer (refused r) = tests.Refused r
 of-answer (given x) = tests.Granted
 
+-- what holds of no refusal, of 10 and of each refusal of the sheet holds of the tests
+pub tested-so : (P : Admission → Type 0) (s : Sheet) (room : Bool) → P tests.Granted → P (tests.Refused AreaTooShort)
+    → ((r : Refusal) → admission s ≡ tests.Refused r → P (tests.Refused r)) → P (tested s room)
+unfolding tested after-admission
+tested-so P s room granted short h = go (admission s) refl
+  where
+    long : (b : Bool) → P (cond b tests.Granted (tests.Refused AreaTooShort))
+    long true = granted
+    long false = short
+
+    go : (a : Admission) → admission s ≡ a → P (after-admission room a)
+    go tests.Granted u = long room
+    go (tests.Refused r) u = h r u
+
+pub tested-zero : (s : Sheet) (room : Bool) → returnedOf (tested s room) ≡ 0
+tested-zero s room = tested-so (λ x. returnedOf x ≡ 0) s room refl refl (λ r u. admission-returns r s u)
+
 -- where the answer of the rounds returns 0 the call's answer does
 pub tested-returns : {A : Type 0} (s : Sheet) (room : Bool) (x : Answer A) → returnedOf (of-answer x) ≡ 0
     → returnedOf (of-answer (after-tests (tested s room) x)) ≡ 0
-unfolding tested after-admission after-tests
-tested-returns s room x z = go (admission s) refl
+unfolding after-tests
+tested-returns s room x z = go (tested s room) (tested-zero s room)
   where
-    long : (b : Bool) → returnedOf (of-answer (after-tests (cond b tests.Granted (tests.Refused AreaTooShort)) x)) ≡ 0
-    long true = z
-    long false = refl
-
-    go : (a : Admission) → admission s ≡ a → returnedOf (of-answer (after-tests (after-admission room a) x)) ≡ 0
-    go tests.Granted u = long room
-    go (tests.Refused r) u = admission-returns r s u
+    go : (t : Admission) → returnedOf t ≡ 0 → returnedOf (of-answer (after-tests t x)) ≡ 0
+    go tests.Granted u = z
+    go (tests.Refused r) u = u
 
 -- what each call returns is whether its answer refuses
 listing-told : (x : Answer Listing) → of-listing (list-reply x) ≡ of-answer x

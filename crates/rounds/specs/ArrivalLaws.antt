@@ -5,6 +5,7 @@ use mathlib.Core.List.{List}
 use Prim.Native.Nat.{ℕ, zero, suc, _+_, _-_, _≤_}
 use native.Mathlib.Omega.{arith}
 use lib.IntN.{ℤ}
+use lib.ListN.{length}
 use lib.Signed.{ltZ, _<ℤ_}
 use Rattle.numbers.specs.Counting.{nth}
 use Rattle.numbers.specs.DecidesLaws.{Decides, decides-ltℤ}
@@ -14,7 +15,7 @@ use Rattle.model.specs.Lateness.{worst}
 use Rattle.model.specs.Admission.{Admitted}
 use Rattle.rounds.specs.Timing.{Timed, stopped, timed}
 use Rattle.rounds.specs.Recording.{Plan, Entry, record-entry, no-entry, last-entry, recorded-arrival}
-use Rattle.rounds.specs.RecordingLaws.{record-last, arrival-behind, arrival-recorded}
+use Rattle.rounds.specs.RecordingLaws.{record-last, last-behind, arrival-behind, arrival-recorded}
 use Rattle.rounds.specs.EntryPlan.{EntryPlan}
 use Rattle.rounds.specs.Lowering.{lower, crowded}
 use Rattle.rounds.specs.Rounds.{Search, going, ended, recorded-in, start, loading, times, settle, grade, depart, round, rounds, recorded-after}
@@ -67,11 +68,15 @@ round-records s c latest y recorded = go (times s (loading s latest))
     go stopped = nothing-more
     go (timed S F W) = graded s (suc c) latest y recorded (record { train = loading s latest; departure = S; arrival = F; window = W })
 
--- ---- of an admitted sheet that entry is not earlier than the one recorded last
+-- ---- of an admitted sheet that entry is not earlier than the one recorded last, and less late
+
+-- less late than the entry recorded last, if there is one
+abbrev pub LessLate : List Entry → Entry → Type 0
+LessLate recorded e = 1 ≤ length recorded → e .pair .worst <ℤ last-entry recorded .pair .worst
 
 pub data Next (recorded : List Entry) : List Entry → Type 0 where
   no-more : Next recorded recorded
-  one-more : (e : Entry) → recorded-arrival recorded ≤ e .pair .last → Next recorded (record-entry recorded e)
+  one-more : (e : Entry) → recorded-arrival recorded ≤ e .pair .last → LessLate recorded e → Next recorded (record-entry recorded e)
 
 module _ (s : Sheet) (a : Admitted s) where
   not-earlier : (y : ℤ) (recorded : List Entry) → Recorded s y recorded → (e : Entry) → EntryPlan s e → e .pair .worst <ℤ y
@@ -83,11 +88,15 @@ module _ (s : Sheet) (a : Admitted s) where
       (not-before s (e₀ .pair) (H .ahead) (e .pair) (belongs-to s e h)
       (subst (λ (v : ℤ). e .pair .worst <ℤ v) limit better))
 
+  less-late : (y : ℤ) (recorded : List Entry) → Recorded s y recorded → (e : Entry) → e .pair .worst <ℤ y → LessLate recorded e
+  less-late y recorded (nothing-yet limit) e better some = absurd (omega arith)
+  less-late y recorded (so-far before e₀ limit H) e better some = rw (last-behind before e₀, ← limit) better
+
   next-is : (y : ℤ) (recorded after : List Entry) → Recorded s y recorded → All no-entry (EntryPlan s) after → Records y recorded after → Next recorded after
   next-is y recorded after r plans nothing-more = no-more
   next-is y recorded after r plans (one-below e better) =
       let (before, u) = record-last recorded e in
-      one-more e (not-earlier y recorded r e (all-new no-entry before e (EntryPlan s) (rw u at plans)) better)
+      one-more e (not-earlier y recorded r e (all-new no-entry before e (EntryPlan s) (rw u at plans)) better) (less-late y recorded r e better)
 
   pub next-recorded : (k : ℕ) → Next (recorded-after s k) (recorded-after s (k + 1))
   unfolding round
@@ -104,7 +113,7 @@ module _ (s : Sheet) (a : Admitted s) where
     where
       go : (recorded after : List Entry) → Next recorded after → recorded-arrival recorded ≤ recorded-arrival after
       go recorded after no-more = omega arith
-      go recorded after (one-more e l) = rw (arrival-recorded recorded e) l
+      go recorded after (one-more e l m) = rw (arrival-recorded recorded e) l
 
   -- nor over several rounds
   pub arrivals-in-order : (k m : ℕ) → k ≤ m → recorded-arrival (recorded-after s k) ≤ recorded-arrival (recorded-after s m)

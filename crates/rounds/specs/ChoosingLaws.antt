@@ -71,7 +71,7 @@ module _ (s : Sheet) (a : Admitted s) (wish : ℕ) where
     where
       go : (recorded after : List Entry) → Next recorded after → wish < recorded-arrival recorded → chosen wish after ≡ chosen wish recorded
       go recorded after no-more late = refl
-      go recorded after (one-more e l) late = later-leaves wish recorded e (some-recorded recorded late) (omega arith)
+      go recorded after (one-more e l m) late = later-leaves wish recorded e (some-recorded recorded late) (omega arith)
 
   settled : (k j : ℕ) → wish < recorded-arrival (recorded-after s k) → chosen wish (recorded-after s (k + j)) ≡ chosen wish (recorded-after s k)
   settled k zero late = let e : k + 0 ≡ k = omega arith in rw e

@@ -126,6 +126,13 @@ module _ (s : Sheet) (a : Admitted s) where
 
   -- ---- the end
 
+  -- what holds of a search that has ended
+  pub ended-after : (k c : ℕ) (recorded : List Entry) → rounds s k (start s) ≡ ended c recorded → Ended s c recorded
+  ended-after k c recorded e = go (subst (Invariant s k) e (after k))
+    where
+      go : Invariant s k (ended c recorded) → Ended s c recorded
+      go (finished h) = h
+
   -- THE SEARCH ENDS WITHIN THE BOUND
   pub over-by : (k : ℕ) → rounds-bound s ≤ k → Over s (rounds s k (start s))
   over-by k l = go (rounds s k (start s)) (after k)

@@ -17,6 +17,7 @@ pub mod Areas
 pub mod AreaLaws
 pub mod Checking
 pub mod Told
+pub mod ByRound
 pub mod Cases
 pub mod CaseLaws
 pub mod SumLaws
@@ -38,4 +39,8 @@ pub mod ChoosingLaws
 pub mod CheckingLaws
 pub mod CheckCases
 pub mod CheckCaseLaws
+pub mod ByRoundLaws
+pub mod FinalLaws
+pub mod ByRoundCases
+pub mod ByRoundCaseLaws
 pub mod SizeLaws

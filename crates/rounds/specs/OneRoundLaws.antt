@@ -28,7 +28,7 @@ use Rattle.rounds.specs.Recording.{Plan, Entry, record-entry, no-entry}
 use Rattle.rounds.specs.RecordingLaws.{record-all, record-lengthens}
 use Rattle.rounds.specs.EntryPlan.{EntryPlan, EntryBooked}
 use Rattle.rounds.specs.Lowering.{lower, crowded}
-use Rattle.rounds.specs.LoweringLaws.{GreatestEarly, latest-below-is, lower-at, Crowded, decides-crowded}
+use Rattle.rounds.specs.LoweringLaws.{GreatestEarly, latest-below-is, lower-at, Crowded, decides-crowded, not-crowded}
 use Rattle.rounds.specs.Rounds.{Search, going, ended, loading, times, settle, grade, depart, round}
 use Rattle.rounds.specs.RoundsBound.{rounds-bound}
 use Rattle.rounds.specs.SumLaws.{sum-lt, sum-near}
@@ -73,6 +73,19 @@ module _ (s : Sheet) where
     still : {c : ℕ} {latest : List ℕ} {y : ℤ} {recorded : List Entry} → Going k c latest y recorded → Invariant k (going c latest y recorded)
     finished : {c : ℕ} {recorded : List Entry} → Ended c recorded → Invariant k (ended c recorded)
 
+-- the loading of these latest trains
+module _ (s : Sheet) (latest : List ℕ) (upto : (j : ℕ) → j < s .orders → at latest j ≤ s .trains) where
+  loads-greedily : Greedy (s .orders) (s .capacity) (s .release) latest (loading s latest)
+  loads-greedily = load-greedy (s .orders) (s .trains) (s .release) (s .capacity) latest upto
+
+  -- it puts every order on a train, where step 5 sees no crowd
+  pub every-order-loaded : ((i : ℕ) → i ≤ s .trains → count (λ j. leb (at latest j) i) (s .orders) ≤ places (s .capacity) i)
+      → (j : ℕ) → j < s .orders → (1 ≤ at (loading s latest) j) × (at (loading s latest) j ≤ s .trains)
+  every-order-loaded fits j l = (
+    every-loaded (s .orders) (s .trains) (s .capacity) (s .release) latest (loading s latest) loads-greedily upto fits j l,
+    omega (arith, loads-greedily .keeps j l, upto j l),
+  )
+
 module _ (s : Sheet) (a : Admitted s) (k c : ℕ) (latest : List ℕ) (y : ℤ) (recorded : List Entry) (g : Going s k c latest y recorded) where
   abbrev n : ℕ
   n = s .orders
@@ -89,17 +102,13 @@ module _ (s : Sheet) (a : Admitted s) (k c : ℕ) (latest : List ℕ) (y : ℤ) 
   released = ready (s .release) train n
 
   greedy : Greedy n (s .capacity) (s .release) latest train
-  greedy = load-greedy n q (s .release) (s .capacity) latest (g .upto)
+  greedy = loads-greedily s latest (g .upto)
 
   all-loaded : (j : ℕ) → j < n → 1 ≤ at train j
-  all-loaded = every-loaded n q (s .capacity) (s .release) latest train greedy (g .upto) (g .fits)
+  all-loaded j l = every-order-loaded s latest (g .upto) (g .fits) j l .0
 
   within : (j : ℕ) → j < n → at train j ≤ q
-  within j l = omega (arith, greedy .keeps j l, g .upto j l)
-
-  -- the loading puts every order on a train
-  pub every-order-loaded : (j : ℕ) → j < n → (1 ≤ at train j) × (at train j ≤ q)
-  every-order-loaded j l = (all-loaded j l, within j l)
+  within j l = every-order-loaded s latest (g .upto) (g .fits) j l .1
 
   -- any schedule that keeps to the latest trains departs after the releases of this loading
   pub covered : (other departure : List ℕ) → Schedule s other departure → Keeps s latest other → Covers q released (nth departure)
@@ -243,10 +252,7 @@ module _ (s : Sheet) (a : Admitted s) (k c : ℕ) (latest : List ℕ) (y : ℤ) 
                 counted = omega (arith, g .counted);
                 shrunk = omega (arith, g .shrunk, shrinks);
                 upto = λ j l. omega (arith, lowered-is j l .not-above, g .upto j l);
-                fits = λ i l.
-                    let h : ¬ (places (s .capacity) i < count (λ j. leb (at lowered j) i) n) =
-                    λ m. d .complete (record { train = i; among = l; more = m }) in
-                    omega arith;
+                fits = not-crowded n (s .capacity) lowered q (d .complete);
                 keeps = keeps′;
                 on-record = on-record′;
               }

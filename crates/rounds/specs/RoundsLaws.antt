@@ -1,5 +1,5 @@
 -- Laws of rounds in a row, and of the search at their end. Assumes nothing.
-use mathlib.Core.Path.{_≡_, refl, ap, _∙_}
+use mathlib.Core.Path.{_≡_, refl, sym, ap, _∙_}
 use mathlib.Core.List.{List}
 use Prim.Native.Nat.{ℕ, zero, suc, _+_, _-_, _*_, _≤_}
 use native.Mathlib.Numerals.{add-one}
@@ -31,10 +31,21 @@ module _ (s : Sheet) where
   rounds-further (suc k) j x =
       let e : suc k + j ≡ suc (k + j) = omega arith in ap (λ (m : ℕ). rounds s m x) e ∙ rounds-further k j (round s x)
 
+  -- a search that has ended stays so
+  pub rounds-past-end : (k j c : ℕ) (recorded : List Entry) (x : Search) → rounds s k x ≡ ended c recorded → rounds s (k + j) x ≡ ended c recorded
+  rounds-past-end k j c recorded x e = rounds-further k j x ∙ ap (rounds s j) e ∙ rounds-ended j c recorded
+
   -- a search that ended within the limit is the whole search
   pub search-at-end : (k c : ℕ) (recorded : List Entry) → k ≤ s .orders * s .trains → rounds s k (start s) ≡ ended c recorded → search s ≡ ended c recorded
   unfolding search
   search-at-end k c recorded l e =
       let j : ℕ = s .orders * s .trains - k in
       let m : s .orders * s .trains ≡ k + j = omega arith in
-      ap (λ (m : ℕ). rounds s m (start s)) m ∙ rounds-further k j (start s) ∙ ap (rounds s j) e ∙ rounds-ended j c recorded
+      ap (λ (m : ℕ). rounds s m (start s)) m ∙ rounds-past-end k j c recorded (start s) e
+
+  -- a search has one end
+  pub one-end : (k m c d : ℕ) (recorded recorded′ : List Entry) (x : Search) → rounds s k x ≡ ended c recorded → rounds s m x ≡ ended d recorded′
+      → ended c recorded ≡ ended d recorded′
+  one-end k m c d recorded recorded′ x u v =
+      let e : k + m ≡ m + k = omega arith in
+      sym (rounds-past-end k m c recorded x u) ∙ ap (λ (j : ℕ). rounds s j x) e ∙ rounds-past-end m k d recorded′ x v

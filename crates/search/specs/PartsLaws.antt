@@ -1,24 +1,29 @@
 -- What holds where a round is begun, and what its parts ask of columns. Assumes nothing.
 use mathlib.Core.Path.{_≡_, refl, sym, ap, _∙_}
-use mathlib.Core.Bool.{false}
+use mathlib.Core.Bool.{Bool, false, not, _&&_}
 use mathlib.Core.List.{List}
-use Prim.Native.Nat.{ℕ, suc, _-_}
+use Prim.Native.Nat.{ℕ, suc, _*_, _-_, _<_}
 use native.Mathlib.Omega.{arith}
 use native.Mathlib.Nat.{mul-le-mul}
+use lib.Dec.{ltb}
 use lib.ListN.{take}
 use lib.Seq.{getD-take}
 use Rattle.numbers.specs.Counting.{at}
+use Rattle.numbers.specs.DecidesLaws.{Decides, decides-lt, decides-and, decides-not, decides-iff, test-false, test-fails}
 use Rattle.model.specs.Sheet.{Sheet}
-use Rattle.model.specs.Limits.{capacity-range, last-arrival}
+use Rattle.model.specs.Limits.{most-pairs, capacity-range, last-arrival}
 use Rattle.model.specs.Memory.{sheetOf}
 use Rattle.model.specs.Admission.{Admitted}
 use Rattle.model.specs.declared.Sheet as memory
 use Rattle.rounds.specs.Timing.{ready, timed}
-use Rattle.rounds.specs.Rounds.{Search, start, times, rounds}
+use Rattle.rounds.specs.Lowering.{crowded}
+use Rattle.rounds.specs.Rounds.{Search, start, loading, times, rounds}
+use Rattle.rounds.specs.LoweringLaws.{decides-crowded, not-crowded}
 use Rattle.rounds.specs.ScheduleLaws.{timed-within}
 use Rattle.rounds.specs.OneRoundLaws.{Going, every-order-loaded}
 use Rattle.rounds.specs.InvariantLaws.{reached}
-use Rattle.columns.specs.Columns.{UpTo}
+use Rattle.columns.specs.Columns.{UpTo, Loaded}
+use Rattle.loading.specs.Ranks.{Ordered}
 use Rattle.timing.specs.declared.Times.{Times}
 use Rattle.lowering.specs.Ranged.{ArrivesTo}
 use Rattle.search.specs.Shows.{Stands, goes-on, has-ended, Reached}
@@ -33,13 +38,37 @@ begun s a p R on = go (rounds s (R .made) (start s)) refl (R .shows .stands)
     go x e (has-ended f c) = one-outcome f on
     go x e (goes-on {c = c} {latest = latest} {y = y} {recorded = recorded} f made l v) =
         let g : Going s (R .made) c latest y recorded = reached s a (R .made) c latest y recorded e in
-        let most = mul-le-mul (a .few .orders) (a .few .trains) in
         record {
           ordered = R .shows .ordered;
           latest = λ j u. rw (ap (λ (m : List ℕ). at m j) (sym l) ∙ getD-take (s .orders) (p .latest) j 0 u) at (g .upto j u);
-          loads = rw l (every-order-loaded s a (R .made) c latest y recorded g);
-          rounds = omega (arith, made, g .counted, R .within);
+          uncrowded = rw l (test-false (decides-crowded (s .orders) (s .capacity) latest (s .trains))
+              (λ x. omega (arith, x .more, g .fits (x .train) (x .among))));
+          within = omega (arith, made, g .counted, R .within);
         }
+
+module _ (s : Sheet) (a : Admitted s) (p : Progress) (b : Begun s p) where
+  -- its loading puts every order on a train
+  pub loads : Loaded s (loading s (take (s .orders) (p .latest)))
+  loads =
+      let latest = take (s .orders) (p .latest) in
+      every-order-loaded s latest (λ j l. rw (getD-take (s .orders) (p .latest) j 0 l) (b .latest j l))
+      (not-crowded (s .orders) (s .capacity) latest (s .trains)
+      (test-fails (decides-crowded (s .orders) (s .capacity) latest (s .trains)) (b .uncrowded)))
+
+  -- a further round can be counted
+  pub few-rounds : p .rounds < most-pairs
+  few-rounds = omega (arith, b .within, mul-le-mul (a .few .orders) (a .few .trains))
+
+-- whether a round can be made, by tests of the orders and of their latest trains
+pub decides-begun : (s : Sheet) (p : Progress) {ordered low : Bool} → Decides (Ordered s (p .order)) ordered
+    → Decides (UpTo (s .trains) (s .orders) (p .latest)) low → (b : Bool) → b ≡ crowded (s .orders) (s .capacity) (take (s .orders) (p .latest)) (s .trains)
+    → Decides (Begun s p) (((ordered && low) && not b) && ltb (p .rounds) (s .orders * s .trains))
+decides-begun s p o l b is =
+    let d = decides-crowded (s .orders) (s .capacity) (take (s .orders) (p .latest)) (s .trains) in
+    rw is
+    (decides-iff (λ x. record { ordered = x .0 .0 .0; latest = x .0 .0 .1; uncrowded = x .0 .1; within = x .1 })
+    (λ x. (((x .ordered, x .latest), x .uncrowded), x .within))
+    (decides-and (decides-and (decides-and o l) (decides-iff (test-false d) (test-fails d) (decides-not d))) (decides-lt _ _)))
 
 -- a plan that was made arrives in time
 pub made-in-time : (s : Sheet) → Admitted s → (train : List ℕ) (t : Times)

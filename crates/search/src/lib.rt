@@ -1,4 +1,5 @@
 // The search: document 01's rounds on an admitted sheet, one at a time. What a round records it leaves in the progress, for its caller to keep.
+pub mod fit;
 pub mod round;
 pub mod start;
 

@@ -9,12 +9,13 @@ ghost use mathlib.Core.Bool.{false};
 ghost use Prim.Native.Nat.{_+_};
 ghost use Rattle.model.specs.Memory.{sheetOf};
 ghost use Rattle.model.specs.Admission.{Admitted};
-ghost use Rattle.search.specs.Shows.{Makes, Reached};
+ghost use Rattle.search.specs.Shows.{Makes};
+ghost use Rattle.search.specs.Parts.{Begun};
 
 // One round of a search that goes on: steps 1 and 2, which may stop it, then 3, and 4 and 5 at the limit.
 pub fn round(mut progress: Progress, sheet: Sheet) -> Progress
     requires { ⌜ Admitted (sheetOf sheet) ⌝ }
-    requires { ⌜ (progress .ended ≡ false) × Reached (sheetOf sheet) progress ⌝ }
+    requires { ⌜ (progress .ended ≡ false) × Begun (sheetOf sheet) progress ⌝ }
     ensures is { λ r. ⌜ Makes (sheetOf sheet) progress r ⌝ }
     ensures counts { λ r. ⌜ r .rounds ≡ progress .rounds + 1 ⌝ }
 {

@@ -10,19 +10,19 @@ use native::refusal::*;
 use native::rng::Rng;
 use native::sheet::{Sheet, FORMS};
 
-const GUARD_PAIR: Pair = Pair { arrival: 7, lateness: 7 };
-const GUARD_TRAIN: u8 = 77;
-const GUARD_TIME: u32 = 777;
+pub const GUARD_PAIR: Pair = Pair { arrival: 7, lateness: 7 };
+pub const GUARD_TRAIN: u8 = 77;
+pub const GUARD_TIME: u32 = 777;
 
 /// Case a with a place more than there are orders.
-fn unequal() -> Sheet {
+pub fn unequal() -> Sheet {
     let mut sheet = sheet_of(CASE_A);
     sheet.capacity[0] += 1;
     sheet
 }
 
 /// Case a with an order that is released behind the last window.
-fn late() -> Sheet {
+pub fn late() -> Sheet {
     let mut sheet = sheet_of(CASE_A);
     sheet.orders.release[0] = 201;
     sheet

@@ -10,4 +10,5 @@ mod printing;
 mod reading;
 mod rounds;
 mod schedules;
+mod watching;
 mod windows;

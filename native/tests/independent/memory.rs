@@ -1,16 +1,19 @@
-//! Sheets in memory: their tests, by both calls.
+//! Sheets in memory: their tests, by listing, by choosing and by the start of a search.
 
 use native::cases::{sheet_of, CASE_A, CASE_H};
 use native::limits::*;
 use native::planner::{choose, list};
 use native::refusal::*;
 use native::sheet::{Orders, Paths, Sheet, Timetable, Windows};
+use native::watching::Watched;
 
-/// The number with which both calls refuse a sheet, if they do. Wish 0 is before every arrival, and refused after all else.
+/// The number with which all calls refuse a sheet, if they do. Wish 0 is before every arrival, and refused after all else.
 fn refused(sheet: &Sheet) -> Option<usize> {
     let refusal = list(sheet).err();
     assert_eq!(choose(sheet, u32::MAX).err(), refusal);
     assert_eq!(choose(sheet, 0).err(), refusal.or(Some(Refusal::of_all(WISH_TOO_EARLY))));
+    assert_eq!(Watched::start(sheet, [usize::MAX; 3]).err(), refusal);
+    assert_eq!(Watched::start(sheet, [0; 3]).err(), refusal.or(Some(Refusal::of_all(AREA_TOO_SHORT))));
     refusal.map(|refusal| refusal.number)
 }
 

@@ -1,11 +1,12 @@
 //! Times the product against the independent planner on sheet files, in one run: `bench [repeats] [FILE...]`; without files, on the stored hard sheets.
 //!
-//! Both list the pairs of the same sheet in memory, choose a plan by the last listed arrival and by the first one, and check the plan of the last
-//! pair, with areas lent once and not cleared between calls. The product's choosing may stop at the first pair that is later than the wish; the
-//! independent planner makes every round, and keeps the plan of every listed pair, in each call. Both are built for release and for the same
-//! processors: the product by its toolchain for plain x86-64, this program for Rust's default target, which is the same. Below the table stands what
-//! checking takes beyond listing. Without files, a second table has the time per round of listing against n and q. The last line says how many ratios
-//! are at most 1.5; the exit status is 0 only if all are, and choosing stops early.
+//! Both list the pairs of the same sheet in memory, choose a plan by the last listed arrival and by the first one, check the plan of the last pair, and
+//! watch a search, which is made by single round calls, with areas lent once and not cleared between calls. The product's choosing may stop at the first
+//! pair that is later than the wish; the independent planner makes every round and, but for watching, keeps the plan of every listed pair. The product
+//! takes sheet and state by value and tests them in each round call; the independent planner keeps its search between them. Both are built for release
+//! and for the same processors: the product by its toolchain for plain x86-64, this program for Rust's default target, which is the same. Below the
+//! table stands what checking takes beyond listing, and a round call beyond a round of listing. Without files, a second table has the time per round of
+//! listing against n and q. The last line says how many ratios are at most 1.5; the exit status is 0 only if all are, and choosing stops early.
 
 mod timing;
 
@@ -33,13 +34,16 @@ const ORDERS: [u32; 3] = [50, 100, 200];
 const TRAINS: [usize; 3] = [8, 16, 32];
 
 /// The timed calls, as the table has them.
-const CALLS: [&str; 4] = ["listing", "choosing by the last", "choosing by the first", "checking"];
+const CALLS: [&str; 5] = ["listing", "choosing by the last", "choosing by the first", "checking", "watching"];
 
 /// The figures of a sheet, in microseconds a call.
 struct Figures {
+    rounds: usize,
     calls: [Timed; CALLS.len()],
     /// What the product's checking takes beyond its listing, where one round is made.
-    beyond: f64,
+    checking_beyond: f64,
+    /// What the product's search by single round calls takes beyond its listing.
+    watching_beyond: f64,
 }
 
 fn main() {
@@ -53,7 +57,8 @@ fn main() {
     let sheets = sheets_to_time(&args);
     let figures: Vec<Figures> =
         sheets.iter().filter_map(|(name, text)| print_comparison(name, text, repeats.max(1))).collect();
-    print_beyond(&figures);
+    print_checking(&figures);
+    print_watching(&figures);
     if args.is_empty() {
         print_growth(repeats.max(1));
     }
@@ -99,39 +104,65 @@ fn print_comparison(name: &str, text: &[u8], repeats: usize) -> Option<Figures> 
         bench.time_choosing(last.pair),
         bench.time_choosing(first.pair),
         bench.time_checking(last),
+        bench.time_watching(),
     ];
     for timed in &calls {
         print!(" {:>7.1} {:>8.1} {:>5.3}", timed.product, timed.independent, timed.ratio());
     }
     println!("  {name}");
-    let [_, by_last, by_first, _] = &calls;
+    let [_, by_last, by_first, ..] = &calls;
     let stops_early = 2.0 * by_first.product <= by_last.product;
     assert!(stops_early || pairs < MANY_PAIRS, "choosing by the first arrival goes on: {name}");
-    Some(Figures { calls, beyond: beyond_listing(&sheet) })
+    Some(Figures {
+        rounds: bench.rounds(),
+        calls,
+        checking_beyond: checking_beyond_listing(&sheet),
+        watching_beyond: bench.watching_beyond_listing(),
+    })
 }
 
 /// How much longer the product's checking takes than its listing. Beside some thousand rounds that would be lost in how much they vary, so it is timed
 /// on the same sheet with one weight and one due time for all orders: there the last arrival decides the lateness too, and one round is made.
-fn beyond_listing(sheet: &Sheet) -> f64 {
+fn checking_beyond_listing(sheet: &Sheet) -> f64 {
     let (n, _) = sheet.size();
     let orders = Orders { due: vec![0; n], weight: vec![1; n], ..sheet.orders.clone() };
     let sheet = Sheet { orders, ..sheet.clone() };
     let bench = Bench::new(&sheet, DEFAULT_REPEATS).expect("the first round is the same");
     assert_eq!(bench.rounds(), 1, "{sheet:?}");
-    bench.beyond_listing(&bench.entries()[0])
+    bench.checking_beyond_listing(&bench.entries()[0])
+}
+
+/// Milliseconds of one of the product's calls on all sheets.
+fn on_all_sheets(figures: &[Figures], call: usize) -> f64 {
+    figures.iter().map(|sheet| sheet.calls[call].product).sum::<f64>() / 1e3
 }
 
 /// Prints how much longer the product's checking takes than its listing, if any sheet was timed.
-fn print_beyond(figures: &[Figures]) {
-    let mut beyond: Vec<f64> = figures.iter().map(|sheet| sheet.beyond).collect();
+fn print_checking(figures: &[Figures]) {
+    let mut beyond: Vec<f64> = figures.iter().map(|sheet| sheet.checking_beyond).collect();
     beyond.sort_by(f64::total_cmp);
     let (Some(least), Some(most)) = (beyond.first(), beyond.last()) else { return };
     let middle = beyond[beyond.len() / 2];
-    let all = |call: usize| figures.iter().map(|sheet| sheet.calls[call].product).sum::<f64>() / 1e3;
-    print!("product, all sheets: listing {:.1} ms, checking {:.1} ms; ", all(0), all(3));
+    let (listing, checking) = (on_all_sheets(figures, 0), on_all_sheets(figures, 3));
+    print!("product, all sheets: listing {listing:.1} ms, checking {checking:.1} ms; ");
     println!(
         "with one weight and due time, in one round, checking takes {middle:.1} us more ({least:.1} to {most:.1})"
     );
+}
+
+/// Prints how much longer a round call of the product takes than a round of its listing, if any sheet was timed.
+fn print_watching(figures: &[Figures]) {
+    if figures.is_empty() {
+        return;
+    }
+    let nanos = |sheets: &[Figures]| {
+        let rounds: usize = sheets.iter().map(|sheet| sheet.rounds).sum();
+        sheets.iter().map(|sheet| sheet.watching_beyond).sum::<f64>() * 1e3 / rounds as f64
+    };
+    let each = || figures.chunks(1).map(nanos);
+    let (least, most) = (each().fold(f64::MAX, f64::min), each().fold(f64::MIN, f64::max));
+    print!("product, all sheets: watching {:.1} ms; ", on_all_sheets(figures, 4));
+    println!("a round call takes {:.0} ns more than a round of listing ({least:.0} to {most:.0})", nanos(figures));
 }
 
 /// Prints the time per round of both planners' listing against n and q, on ladders.

@@ -1,6 +1,6 @@
 //! One sheet, timed.
 
-use binding::areas::{CheckAreas, PairsArea, PlanAreas};
+use binding::areas::{CheckAreas, PairsArea, PlanAreas, SearchAreas};
 use binding::exported::ExportedSheet;
 use native::admission::admit;
 use native::checking::{check_in, Checked, ForeignPlan};
@@ -8,6 +8,7 @@ use native::plan::{Entry, Pair};
 use native::planner::{choose_in, list_in, Counts};
 use native::search::{search, Recorded};
 use native::sheet::Sheet;
+use native::watching::{self, Said, Watched};
 use std::hint::black_box;
 use std::time::{Duration, Instant};
 
@@ -114,16 +115,75 @@ impl Bench<'_> {
         Timed::of(turns)
     }
 
-    /// How many microseconds longer than its listing the product's checking of this plan takes: the median of the turns.
-    pub fn beyond_listing(&self, Entry { plan, .. }: &Entry) -> f64 {
+    /// The whole search by single round calls: both must come to as many pairs in as many rounds.
+    pub fn time_watching(&self) -> Timed {
+        let Bench { sheet, exported, repeats, .. } = self;
+        let (n, q) = sheet.size();
+        let lengths = SearchAreas::least(n, q);
+        let mut areas = SearchAreas::of_lengths(lengths);
+        let mut own_areas = watching::SearchAreas {
+            pairs: vec![Pair::default(); n * q],
+            train_of_order: vec![0; lengths[1]],
+            times: vec![0; lengths[2]],
+        };
+        let (turns, counts, said) = in_turns(
+            *repeats,
+            || watch(black_box(exported), &mut areas),
+            || watch_independently(black_box(sheet), &mut own_areas),
+        );
+        assert_eq!(counts, self.counts(), "{sheet:?}");
+        assert_eq!(said, Said::Ended(self.counts()), "{sheet:?}");
+        Timed::of(turns)
+    }
+
+    /// How many microseconds longer than its listing the product's checking of this plan takes.
+    pub fn checking_beyond_listing(&self, Entry { plan, .. }: &Entry) -> f64 {
+        let (n, q) = self.sheet.size();
+        let mut areas = CheckAreas::holding(&plan.into(), PairsArea::least(n, q));
+        self.beyond_listing(|exported| {
+            let reply = exported.check_in(&mut areas);
+            Counts { pairs: reply.pairs, rounds: reply.rounds }
+        })
+    }
+
+    /// How many microseconds longer than its listing the product's search by single round calls takes.
+    pub fn watching_beyond_listing(&self) -> f64 {
+        let (n, q) = self.sheet.size();
+        let mut areas = SearchAreas::of_lengths(SearchAreas::least(n, q));
+        self.beyond_listing(|exported| watch(exported, &mut areas))
+    }
+
+    /// The same of a call with as many pairs and rounds: the median of the turns.
+    fn beyond_listing(&self, mut call: impl FnMut(&ExportedSheet) -> Counts) -> f64 {
         let Bench { sheet, exported, repeats, .. } = self;
         let (n, q) = sheet.size();
         let mut area = PairsArea::of_length(PairsArea::least(n, q));
-        let mut areas = CheckAreas::holding(&plan.into(), PairsArea::least(n, q));
-        let (turns, listing, check) =
-            in_turns(*repeats, || black_box(exported).list_in(&mut area), || black_box(exported).check_in(&mut areas));
-        assert_eq!((check.pairs, check.rounds), (listing.pairs, listing.rounds), "{sheet:?}");
-        median(turns.into_iter().map(|(listing, checking)| checking - listing).collect())
+        let (turns, listing, counts) =
+            in_turns(*repeats, || black_box(exported).list_in(&mut area), || call(black_box(exported)));
+        assert_eq!(counts, Counts { pairs: listing.pairs, rounds: listing.rounds }, "{sheet:?}");
+        median(turns.into_iter().map(|(listing, call)| call - listing).collect())
+    }
+}
+
+/// The product's search by single round calls, and what the last of them counts.
+fn watch(sheet: &ExportedSheet, areas: &mut SearchAreas) -> Counts {
+    let start = sheet.start_in(areas);
+    let mut reply = sheet.round_in(&start.state, areas);
+    while !reply.ended {
+        reply = sheet.round_in(&reply.state, areas);
+    }
+    Counts { pairs: reply.pairs, rounds: reply.rounds }
+}
+
+/// The independent planner's, and what its last call says.
+fn watch_independently(sheet: &Sheet, areas: &mut watching::SearchAreas) -> Said {
+    let lengths = [areas.pairs.len(), areas.train_of_order.len(), areas.times.len()];
+    let mut search = Watched::start(sheet, lengths).expect("an admitted sheet");
+    loop {
+        let said = search.round(sheet, areas);
+        if said != Said::GoesOn {
+            return said;
+        }
     }
 }
 

@@ -39,8 +39,10 @@ returns c =
     let s = j .before in
     let a = s .args in
     let small : a .arrival < 2 ^ 63 = omega arith in
-    rw (toZ-pos w64 small, toZ-ofZ {w = w64} (s .fits .worst))
-    (lists-more (a .count) (a .last) (a .arrival) (a .worst) (a .pairs .now) (s .pre .0) (j .if1 .count) (placed j) _ refl)
+    rw (toZ-pos w64 small, toZ-ofZ {w = w64} (s .fits .worst)) (
+      lists-more (a .count) (a .last) (a .arrival) (a .worst) (a .pairs .now) (s .pre .0) (j .if1 .count) (placed j) _ refl,
+      (omega arith, omega (arith, placed j, place-most (a .count) (a .last) (a .arrival))),
+    )
 
 pub list-pair-spec : {M : Type 1} → statement M
 list-pair-spec =

@@ -20,7 +20,7 @@ use Rattle.search.specs.declared.Progress.{Progress}
 use Rattle.search.specs.RunLaws.{not-yet, by-now}
 use Rattle.planner.specs.SoFar.{Running, recorded-now, Holds}
 use Rattle.planner.specs.ChoiceRoundLaws.{both, not-both, choice-begun, choice-taken, choice-kept, choice-ended}
-use Rattle.planner.specs.RunningLaws.{begun, more, reached, next, next-better}
+use Rattle.planner.specs.RunningLaws.{begun, more, can-go-on, next, next-better}
 use Rattle.planner.specs.ChoosingLaws.{told-refused, told-rounds, choosing-call}
 use Rattle.planner.specs.CallLaws.{admitted, has-room}
 use Rattle.planner.proofs.choosing.choose.Statement.{statement}
@@ -107,7 +107,9 @@ module _ (c : tie.Then1 Inv-loop μ-loop) where
   within = more sheet (passes (granted (head c))) progress (head c .loop .inv .0) on
 
 round-requires : tie.Need-round-requires Inv-loop μ-loop
-round-requires c κs = (passes (granted (head c)), (on c, reached (sheet c) (progress c) (head c .loop .inv .0) (within c)))
+round-requires c κs =
+    let a = passes (granted (head c)) in
+    (a, (on c, can-go-on (sheet c) a (progress c) (head c .loop .inv .0) (on c)))
 
 put-trains-requires : tie.Need-put-trains-requires Inv-loop μ-loop
 put-trains-requires c κs =

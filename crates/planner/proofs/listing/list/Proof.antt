@@ -1,9 +1,8 @@
 -- `planner::listing::list` meets its contract: the first test that fails decides, else the rounds. The loop's invariant is that the search after so many
 -- rounds is shown, and that its list is in the area. Assumes nothing.
 use borrow.Author.Needs.{needs}
-use mathlib.Core.Path.{_≡_, refl, ap}
+use mathlib.Core.Path.{_≡_, refl}
 use mathlib.Core.Bool.{false}
-use mathlib.Core.List.{List}
 use Prim.Native.Nat.{_+_, _*_, _-_, _≤_, _<_}
 use native.Mathlib.Omega.{arith}
 use native.Mathlib.Nat.{mul-le-mul}
@@ -13,15 +12,13 @@ use mir.Syntax.{w64}
 use Rattle.model.specs.Memory.{sheetOf}
 use Rattle.model.specs.Sheet.{Sheet}
 use Rattle.model.specs.Admission.{Admitted}
-use Rattle.rounds.specs.Recording.{Entry}
-use Rattle.rounds.specs.RecordingLaws.{record-lengthens}
 use Rattle.rounds.specs.AreaLaws.{decides-list-room}
 use Rattle.recording.specs.Recorded.{held-list, Lists}
-use Rattle.search.specs.Shows.{shown-entry, recorded-by}
+use Rattle.search.specs.Shows.{recorded-by}
 use Rattle.search.specs.declared.Progress.{Progress}
 use Rattle.search.specs.RunLaws.{not-yet, by-now}
 use Rattle.planner.specs.SoFar.{Running, recorded-now}
-use Rattle.planner.specs.RunningLaws.{begun, more, reached, next, next-better, next-same, list-begun, list-better, list-same, list-ended}
+use Rattle.planner.specs.RunningLaws.{begun, more, can-go-on, next, next-better, next-same, list-begun, list-better, list-same, list-ended}
 use Rattle.planner.specs.ListingLaws.{told-refused, told-rounds, listing-call}
 use Rattle.planner.specs.CallLaws.{admitted, has-room}
 use Rattle.planner.proofs.listing.list.Statement.{statement}
@@ -82,7 +79,9 @@ module _ (c : tie.Then1 Inv-loop μ-loop) where
   within = more sheet (passes (granted here)) (here .loop .progress) (here .loop .inv .0) on
 
 round-requires : tie.Need-round-requires Inv-loop μ-loop
-round-requires c κs = (passes (granted (here c)), (on c, reached (sheet c) (here c .loop .progress) (here c .loop .inv .0) (within c)))
+round-requires c κs =
+    let a = passes (granted (here c)) in
+    (a, (on c, can-go-on (sheet c) a (here c .loop .progress) (here c .loop .inv .0) (on c)))
 
 list-pair-requires : tie.Need-list-pair-requires Inv-loop μ-loop
 list-pair-requires c κs =
@@ -119,18 +118,10 @@ loop-again c =
     let l = here (turn r) .loop in
     let is = next-better s (progress r) (r .round .result) (lists .before .before .before .if2 .taken) (goes r .1) in
     let limit = toZ-ofZ {w = w64} {z = r .round .result .limit} (record { sfits = lists .before .struct-told .given .1 .1 .1 .1 .1 .1 .1 .0 .1 }) in
-    let after = list-better s (progress r) (r .round .result) _ _ _ _ _ is (l .inv .1) (rw limit at (lists .list-pair .ensures)) in (
+    let after = list-better s (progress r) (r .round .result) _ _ _ _ _ is (l .inv .1) (rw limit at (lists .list-pair .ensures .0)) in (
       goes r .0,
       after,
-      omega (
-        arith,
-        fewer r,
-        l .inv .2,
-        l .inv .1 .count-is,
-        after .count-is,
-        ap (λ (es : List Entry). length es) is,
-        record-lengthens (recorded-now s (progress r)) (shown-entry s (r .round .result)) .one-more,
-      ),
+      omega (arith, fewer r, l .inv .2, lists .list-pair .ensures .1 .1),
       omega (arith, lists .list-pair .kept, l .inv .3),
     )
 

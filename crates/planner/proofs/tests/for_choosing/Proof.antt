@@ -1,16 +1,15 @@
--- `planner::tests::for_choosing` meets its contract: the first of tests 4, 5, 2, 6, 7 that fails, else 10; no product wraps. Assumes nothing.
+-- `planner::tests::for_choosing` meets its contract: the first of tests 4, 5, 2, 6, 7 that fails, else 10. Assumes nothing.
 use borrow.Author.Needs.{needs}
-use mathlib.Core.Path.{sym, _∙_}
-use native.Mathlib.Omega.{arith}
 use Rattle.model.specs.Memory.{sheetOf}
-use Rattle.model.specs.Admission.{Admitted}
-use Rattle.model.specs.AdmissionLaws.{admitted-means}
-use Rattle.planner.specs.CallLaws.{tested-first, tested-room}
+use Rattle.model.specs.Admission.{Few}
+use Rattle.planner.specs.CallLaws.{tested-first, tested-room, granted-few}
 use Rattle.planner.proofs.tests.for_choosing.Statement.{statement}
 use Rattle.planner.proofs.tests.for_choosing.Tie as tie
 
-admitted : (c : tie.After-enum-told) → Admitted (sheetOf (c .before .before .before .args .sheet))
-admitted c = admitted-means (sheetOf (c .before .before .before .args .sheet)) .0 (sym (c .before .before .admit .ensures) ∙ c .enum-told .given .1)
+few : (c : tie.After-enum-told) → Few (sheetOf (c .before .before .before .args .sheet))
+few c =
+    let told = c .before .before in
+    granted-few (sheetOf (told .before .args .sheet)) _ (told .admit .ensures) (c .enum-told .given .1)
 
 returns : tie.Need-returns
 returns c =
@@ -19,14 +18,12 @@ returns c =
 
 returns-2 : tie.Need-returns-2
 returns-2 c =
-    let granted = c .before .before .before in
+    let granted = c .before .before in
     let told = granted .before .before in
-    c .with-room .ensures ∙ tested-room (sheetOf (told .before .args .sheet)) _ _ (told .admit .ensures) (granted .enum-told .given .1)
-
-mul-with-room : tie.Need-mul-with-room
-mul-with-room c = let a = admitted (c .before .before) in omega (arith, a .few .trains)
+    rw (c .with-room .ensures, c .before .holds-plan .ensures)
+    (tested-room (sheetOf (told .before .args .sheet)) _ _ (told .admit .ensures) (granted .enum-told .given .1))
 
 pub for-choosing-spec : {M : Type 1} → statement M
 for-choosing-spec =
     tie.close
-    (tie.spec (λ c κs. tt) (λ c. search needs) (λ c. search needs) returns mul-with-room (λ c κs. tt) returns-2)
+    (tie.spec (λ c κs. tt) (λ c. search needs) (λ c. search needs) returns (λ c κs. few c .trains) (λ c κs. tt) returns-2)

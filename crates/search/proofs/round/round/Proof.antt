@@ -26,7 +26,7 @@ use Rattle.timing.specs.declared.Times.{Times}
 use Rattle.lowering.specs.RangedLaws.{in-ranges, arrives}
 use Rattle.lowering.specs.LoweringStepLaws.{worst-taken, lower-taken}
 use Rattle.search.specs.Parts.{Begun, Counted, Graded}
-use Rattle.search.specs.PartsLaws.{begun, made-in-time, capacities, arrives-to}
+use Rattle.search.specs.PartsLaws.{loads, few-rounds, made-in-time, capacities, arrives-to}
 use Rattle.search.specs.RoundLaws.{round-stopped, round-made}
 use Rattle.search.specs.declared.Progress.{Progress}
 use Rattle.search.proofs.round.round.Statement.{statement}
@@ -51,7 +51,10 @@ module _ (s : tie.Start) where
   progress = s .args .progress
 
   begins : Begun sheet progress
-  begins = begun sheet (s .pre .0) progress (s .pre .1 .1) (s .pre .1 .0)
+  begins = s .pre .1 .1
+
+  rides-all : Loaded sheet (loading sheet (take (sheet .orders) (progress .latest)))
+  rides-all = loads sheet (s .pre .0) progress begins
 
   to-load : ToLoad (sheet .orders) (sheet .trains) (sheet .release) (s .args .sheet .capacity) (progress .order) (progress .latest)
   to-load =
@@ -61,7 +64,7 @@ module _ (s : tie.Start) where
         few-trains = a .few .trains;
         ordered = begins .ordered;
         up-to = begins .latest;
-        loaded = λ j l. begins .loads j l .0;
+        loaded = λ j l. rides-all j l .0;
       }
 
 -- where the trains are loaded
@@ -77,7 +80,7 @@ module _ (c : tie.After-load) where
   loaded = c .load .ensures (sheet start .trains) (sheet start .release) (to-load start)
 
   rides : Loaded (sheet start) (take (sheet start .orders) train)
-  rides = subst (Loaded (sheet start)) (sym loaded) (begins start .loads)
+  rides = subst (Loaded (sheet start)) (sym loaded) (rides-all start)
 
 -- where they are timed
 timings : (c : tie.After-time-trains) → let s = start (c .before) in
@@ -190,7 +193,7 @@ round-spec =
     (tie.spec
     (λ c κs. let s = entry c in (sheet s .trains, sheet s .release, to-load s))
     (λ c κs. let s = start c in (s .pre .0, loaded-column (sheet s) (train c) (rides c)))
-    (λ c. omega (arith, begins (start (c .before .before)) .rounds))
+    (λ c. let s = start (c .before .before) in omega (arith, few-rounds (sheet s) (s .pre .0) (progress s) (begins s)))
     worst-of-requires
     (λ c κs. let a = start (load (c .before)) .pre .0 in (a .complete .trains, a .few .trains))
     lower-requires

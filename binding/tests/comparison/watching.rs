@@ -1,0 +1,277 @@
+//! The search by single rounds: lists of calls on drawn and stored sheets, refused starts, and damaged states.
+
+use crate::spoil::spoil;
+use crate::states::{damaged, is_taken};
+use crate::watched::{reply_of, Both, NO_STATE};
+use binding::areas::SearchAreas;
+use binding::calls::{look, Round, Start, State};
+use binding::exported::ExportedSheet;
+use native::draw::{big, drawn_size, small};
+use native::ladder::{ladder_timetable, ladder_windows, Ladder};
+use native::planner::Counts;
+use native::reader::read;
+use native::refusal::*;
+use native::rng::Rng;
+use native::sheet::{Form, Sheet, FORMS};
+use native::stored::stored_sheets;
+use native::watching::Said;
+use std::mem::{offset_of, size_of};
+
+/// What was met.
+#[derive(Debug, Default)]
+struct Met {
+    searches: usize,
+    calls: usize,
+    rounds: usize,
+    replaced: usize,
+    refused: usize,
+}
+
+impl Met {
+    fn print(&self, what: &str) {
+        let Met { searches, calls, rounds, replaced, refused } = self;
+        println!("watching, {what}: {searches} searches in {calls} calls compared ({rounds} rounds, {refused} searches without a schedule; {replaced} looks at a replaced pair)");
+    }
+
+    fn meet(&mut self, search: &Both) {
+        self.searches += 1;
+        self.rounds += search.rounds();
+        self.refused += usize::from(matches!(search.said(), Said::Refused(_)));
+    }
+
+    /// A drawn list of calls of searches that take turns, until each has ended, and some further ones.
+    fn take_turns(&mut self, searches: &mut [Both], rng: &mut Rng) {
+        let mut further = 2 * searches.len();
+        while further > 0 {
+            let at = rng.index(searches.len());
+            if rng.one_in(3) {
+                self.replaced += usize::from(searches[at].look());
+            } else {
+                searches[at].round();
+            }
+            self.calls += 1;
+            further -= usize::from(searches.iter().all(|search| search.said() != Said::GoesOn));
+        }
+        for search in searches {
+            search.check_end();
+            self.meet(search);
+        }
+    }
+
+    /// The whole search, with a look behind each round.
+    fn run(&mut self, sheet: &Sheet, rng: &mut Rng) {
+        let (n, q) = sheet.size();
+        let mut search = started(sheet, rng);
+        while search.said() == Said::GoesOn {
+            search.round();
+            self.replaced += usize::from(search.look());
+            self.calls += 2;
+            assert!(search.rounds() <= n * q, "{sheet:?}");
+        }
+        search.check_end();
+        (0..2).for_each(|_| search.round());
+        self.meet(&search);
+    }
+}
+
+/// A search of both on an admitted sheet, in areas that are long enough or have room to spare.
+fn started<'a>(sheet: &'a Sheet, rng: &mut Rng) -> Both<'a> {
+    let (n, q) = sheet.size();
+    let spare = |length| length + if rng.one_in(2) { rng.index(4) } else { 0 };
+    Both::start(sheet, SearchAreas::least(n, q).map(spare)).expect("an admitted sheet")
+}
+
+/// As a C compiler lays out what include/joshkamber.h declares, on x86-64.
+#[test]
+fn layout() {
+    assert_eq!((offset_of!(State, pairs), offset_of!(State, rounds), offset_of!(State, limit)), (0, 8, 16));
+    assert_eq!((offset_of!(State, last), offset_of!(State, ended), offset_of!(State, order)), (24, 28, 29));
+    assert_eq!((offset_of!(State, latest), size_of::<State>()), (229, 432));
+    assert_eq!((offset_of!(Start, cause), offset_of!(Start, state), size_of::<Start>()), (0, 16, 448));
+    assert_eq!((offset_of!(Round, cause), offset_of!(Round, ended), offset_of!(Round, pairs)), (0, 16, 24));
+    assert_eq!((offset_of!(Round, rounds), offset_of!(Round, state), size_of::<Round>()), (32, 40, 472));
+}
+
+#[test]
+fn guards_tell_what_was_written() {
+    let lent = SearchAreas::of_lengths([4, 2, 3]);
+    let mut areas = lent.clone();
+    areas.pairs.lent()[1] = 0;
+    areas.plan.train_of_order.lent()[1] = 1;
+    areas.plan.times.lent()[0] = 0;
+    assert!(areas.guarded_but([2, 2, 1]) && areas.same_but([2, 2, 1], &lent) && areas != lent);
+    for fewer in [[1, 2, 1], [2, 1, 1], [2, 2, 0]] {
+        assert!(!areas.guarded_but(fewer) && !areas.same_but(fewer, &lent), "{fewer:?}");
+    }
+}
+
+#[test]
+fn random_sheets() {
+    let mut rng = Rng::new(112);
+    for form in FORMS {
+        let mut met = Met::default();
+        for (turns, most_orders) in [(4_000, 9), (800, 32)] {
+            for _ in 0..turns {
+                let sheets = [(); 2].map(|()| small(&mut rng, form, most_orders));
+                let mut searches: Vec<Both> = sheets.iter().map(|sheet| started(sheet, &mut rng)).collect();
+                met.take_turns(&mut searches, &mut rng);
+            }
+        }
+        for _ in 0..150 {
+            let (n, q) = drawn_size(&mut rng);
+            met.run(&big(&mut rng, form, n, q), &mut rng);
+        }
+        met.print(&format!("{form:?}"));
+        assert!(met.replaced > 1_000 && met.refused > 100, "{met:?}");
+    }
+}
+
+#[test]
+fn ladders() {
+    let mut rng = Rng::new(113);
+    let mut met = Met::default();
+    for (release, stir) in [(0, 0), (300, 3), (3_000, 50)] {
+        let ladder = Ladder { release, stir, shuffled: stir > 0 };
+        met.run(&ladder_windows(&mut rng, 60, 12, ladder, 0), &mut rng);
+        met.run(&ladder_timetable(&mut rng, 60, 12, ladder), &mut rng);
+    }
+    met.print("ladders");
+    assert!(met.rounds > 100 * met.searches, "{met:?}");
+}
+
+#[test]
+fn stored_sheets_agree() {
+    let mut rng = Rng::new(114);
+    let mut met = Met::default();
+    for stored in stored_sheets() {
+        if let Ok(reading) = read(&stored.text, Form::of(&stored.text)) {
+            met.run(&reading.sheet, &mut rng);
+        }
+    }
+    met.print("stored sheets");
+    assert!(met.searches > 80 && met.refused > 5, "{met:?}");
+}
+
+/// Lengths that are enough for the sheet, and those of which one or all are too short.
+fn lengths_around(sheet: &Sheet, rng: &mut Rng) -> Vec<[usize; 3]> {
+    let (n, q) = sheet.size();
+    let least = SearchAreas::least(n, q);
+    let mut all = vec![least, least.map(|length| length + rng.index(4)), [0; 3]];
+    for area in 0..least.len() {
+        for missing in [1, 1 + rng.index(least[area].max(1))] {
+            let mut short = least;
+            short[area] = least[area].saturating_sub(missing);
+            all.push(short);
+        }
+    }
+    all
+}
+
+/// A start gives the first refusal in document 01's order, for all three areas. A round on what a start refuses, from a state of the sheet before it was
+/// spoiled, is told as no search.
+#[test]
+fn refused_starts() {
+    let mut rng = Rng::new(115);
+    let mut met = [0; NUMBER_COUNT];
+    for turn in 0..15_000 {
+        let mut sheet = small(&mut rng, FORMS[turn % 2], 9);
+        let (state, _) = some_search(&sheet, &mut rng);
+        (0..rng.index(4)).for_each(|_| spoil(&mut rng, &mut sheet));
+        for lengths in lengths_around(&sheet, &mut rng) {
+            met[Both::start(&sheet, lengths).err().map_or(0, |refusal| refusal.number)] += 1;
+            check_round(&sheet, &state, &mut SearchAreas::of_lengths(lengths));
+        }
+    }
+    println!(
+        "watching, refused starts: {} starts compared, {} refused",
+        met.iter().sum::<usize>(),
+        met[1..].iter().sum::<usize>()
+    );
+    let possible = [0, OUT_OF_RANGE, TOO_MANY, KIND_MISSING, OUT_OF_ORDER, PLACES_DIFFER, AREA_TOO_SHORT];
+    let others = (0..NUMBER_COUNT).filter(|number| !possible.contains(number));
+    assert!(possible.iter().all(|&number| met[number] > 1_000), "{met:?}");
+    assert!(others.map(|number| met[number]).sum::<usize>() == 0, "{met:?}");
+}
+
+/// What is said of the state that a round call gives back.
+fn said_of(state: &State) -> Said {
+    match state {
+        State { ended: 0, .. } => Said::GoesOn,
+        State { pairs: 0, .. } => Said::Refused(Refusal::of_all(NO_SCHEDULE)),
+        State { pairs, rounds, .. } => Said::Ended(Counts { pairs: *pairs, rounds: *rounds }),
+    }
+}
+
+/// A round from any state: told as no search, or as its end again, with nothing changed; or made, and then only the front of each area is written.
+fn check_round(sheet: &Sheet, state: &State, areas: &mut SearchAreas) -> Round {
+    let (lengths, found) = (areas.lengths(), areas.clone());
+    let reply = ExportedSheet::from(sheet).round_in(state, areas);
+    if !is_taken(state, sheet, lengths) {
+        assert_eq!(reply, reply_of(Said::Ended(Counts { pairs: 0, rounds: 0 }), *state), "{lengths:?} {sheet:?}");
+        assert!(areas.same_but([0; 3], &found), "{state:?} {lengths:?} {sheet:?}");
+    } else if state.ended != 0 {
+        assert_eq!(reply, reply_of(said_of(state), *state), "{sheet:?}");
+        assert!(areas.same_but([0; 3], &found), "{state:?} {sheet:?}");
+    } else {
+        let (n, q) = sheet.size();
+        let next = reply.state;
+        assert_eq!(reply, reply_of(said_of(&next), next), "{state:?} {sheet:?}");
+        assert_eq!((next.rounds, next.order), (state.rounds + 1, state.order), "{state:?} {sheet:?}");
+        assert!((state.pairs..=state.pairs + 1).contains(&next.pairs), "{state:?} {sheet:?}");
+        assert!(2 * next.pairs <= lengths[0], "{state:?} {sheet:?}");
+        assert!(areas.same_but([2 * next.pairs, n, 3 * q], &found), "{state:?} {sheet:?}");
+    }
+    reply
+}
+
+/// A look at any state: no more pairs than the area holds, and nothing is changed.
+fn check_look(state: &State, areas: &mut SearchAreas) {
+    let (most, found) = (areas.lengths()[0] / 2, areas.clone());
+    let seen = look(state, areas.pairs.lent());
+    assert_eq!(seen, if state.pairs <= most { state.pairs } else { 0 });
+    assert!(areas.same_but([0; 3], &found), "{state:?}");
+}
+
+/// A search on the sheet after some rounds, in areas that may be too short.
+fn some_search(sheet: &Sheet, rng: &mut Rng) -> (State, SearchAreas) {
+    let (n, q) = sheet.size();
+    let mut areas = SearchAreas::of_lengths(SearchAreas::least(n, q));
+    let mut state = ExportedSheet::from(sheet).start_in(&mut areas).state;
+    (0..rng.index(4)).for_each(|_| state = check_round(sheet, &state, &mut areas).state);
+    if rng.one_in(8) {
+        let mut lengths = areas.lengths();
+        lengths[rng.index(3)] -= 1;
+        areas = SearchAreas::of_lengths(lengths);
+    }
+    (state, areas)
+}
+
+/// Calls that go on from a damaged state come to an end.
+#[test]
+fn damaged_states() {
+    let mut rng = Rng::new(116);
+    let (mut other, mut calls, mut no_search, mut made) = (NO_STATE, 0, 0, 0);
+    for turn in 0..40_000 {
+        let sheet = small(&mut rng, FORMS[turn % 2], if turn % 4 == 0 { 32 } else { 9 });
+        let (n, q) = sheet.size();
+        let (sound, mut areas) = some_search(&sheet, &mut rng);
+        let mut state = damaged(&mut rng, &sound, &other, &sheet);
+        let mut rounds = 0;
+        loop {
+            check_look(&state, &mut areas);
+            let reply = check_round(&sheet, &state, &mut areas);
+            calls += 2;
+            rounds += 1;
+            assert!(rounds <= n * q, "{sheet:?}");
+            state = reply.state;
+            if reply.ended {
+                no_search += usize::from(reply == reply_of(Said::Ended(Counts { pairs: 0, rounds: 0 }), state));
+                break;
+            }
+            made += 1;
+        }
+        other = sound;
+    }
+    println!("watching, damaged states: {calls} calls ({made} rounds made and gone on from, {no_search} states told as of no search)");
+    assert!(no_search > 10_000 && made > 2_000, "{no_search} {made}");
+}

@@ -1,0 +1,34 @@
+-- `search::fit::fits` meets its contract: each part has its test. Assumes nothing.
+use native.Mathlib.Omega.{arith}
+use native.Mathlib.Nat.{mul-le-mul}
+use Rattle.model.specs.Memory.{sheetOf}
+use Rattle.search.specs.PartsLaws.{capacities, decides-begun}
+use Rattle.search.proofs.fit.fits.Statement.{statement}
+use Rattle.search.proofs.fit.fits.Tie as tie
+
+-- the way back to the entry from the test of the orders
+abbrev entry : tie.After-are-in-order → tie.Start
+entry c = c .before .before .before .before
+
+is-crowded-requires : tie.Need-is-crowded-requires
+is-crowded-requires c κs =
+    let s = entry (c .before .before) in
+    let a = s .pre in
+    (a .few .orders, a .few .trains, capacities (s .args .sheet) a, omega (arith, a .balanced))
+
+mul-result : tie.Need-mul-result
+mul-result c = let a = entry (c .before .before .before .before) .pre in omega (arith, mul-le-mul (a .few .orders) (a .few .trains))
+
+returns : tie.Need-returns
+returns c =
+    let low = c .before in
+    let crowded = low .before in
+    let ordered = crowded .before .before .before in
+    let s = entry ordered in
+    decides-begun (sheetOf (s .args .sheet)) (s .args .progress) (ordered .are-in-order .ensures) (low .none-above .ensures) _ (crowded .is-crowded .ensures)
+
+pub fits-spec : {M : Type 1} → statement M
+fits-spec =
+    tie.close
+    (tie.spec
+    (λ c κs. c .before .before .before .pre .few .orders) is-crowded-requires (λ c κs. entry (c .before .before .before) .pre .few .orders) mul-result returns)

@@ -1,0 +1,12 @@
+pub mod State
+pub mod Fit
+pub mod LeftBy
+pub mod Calls
+pub mod Advance
+pub mod AnyCalls
+pub mod StateLaws
+pub mod FitLaws
+pub mod CallLaws
+pub mod AdvanceLaws
+pub mod RoundCallLaws
+pub mod AnyCallsLaws

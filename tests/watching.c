@@ -1,0 +1,599 @@
+/* Searches that are watched, as a caller from C may have them: lists of calls in areas of exactly the length needed, in too short ones, from
+ * damaged states and on damaged sheets, of both forms. Each call must return, keep to the areas, and answer as include/joshkamber.h says. The areas
+ * are malloced, or lie against a page that may not be touched: the library itself is not built for the sanitisers.
+ *
+ *    cc -g -fsanitize=address,undefined -I include tests/watching.c target/staticlib/libcapi.a -o watching && ./watching
+ *
+ * The last line counts what was met; the exit status is 0 only if all of it held.
+ */
+#define _DEFAULT_SOURCE /* for mmap */
+#include <stdio.h>
+#include <stdlib.h>
+#include <string.h>
+#include <sys/mman.h>
+#include <unistd.h>
+
+#include "joshkamber.h"
+
+enum { MOST_WINDOWS = JOSHKAMBER_MOST_WINDOWS, MOST_TRAINS = JOSHKAMBER_MOST_TRAINS, MOST_ORDERS = JOSHKAMBER_MOST_ORDERS };
+
+/* The numbers of the refusals. */
+enum { OUT_OF_RANGE = 2, TOO_MANY = 4, PLACES_DIFFER = 7, NO_SCHEDULE = 8, AREA_TOO_SHORT = 10 };
+
+/* ---- what must hold */
+
+static void wrong(int line, const char *what) {
+    printf("watching: line %d does not hold: %s\n", line, what);
+    exit(1);
+}
+
+#define MUST(holds) ((holds) ? (void)0 : wrong(__LINE__, #holds))
+
+/* What was met, to be told at the end. */
+static struct {
+    size_t sheets, calls, looks, going, ended, refused, no_search, starts_refused;
+} met;
+
+/* ---- drawn numbers: splitmix64 with a fixed seed */
+
+static uint64_t seed = 4;
+
+static uint64_t bits(void) {
+    uint64_t z = seed += UINT64_C(0x9e3779b97f4a7c15);
+    z = (z ^ (z >> 30)) * UINT64_C(0xbf58476d1ce4e5b9);
+    z = (z ^ (z >> 27)) * UINT64_C(0x94d049bb133111eb);
+    return z ^ (z >> 31);
+}
+
+static uint32_t within(uint32_t low, uint32_t high) {
+    return low + (uint32_t)(bits() % ((uint64_t)(high - low) + 1));
+}
+
+static bool one_in(uint32_t times) {
+    return within(1, times) == 1;
+}
+
+/* A number at an end of some range of a sheet of n orders and q trains, or beside one. */
+static size_t edge(size_t n, size_t q) {
+    const size_t edges[] = {0, 1, n - 1, n, n + 1, q - 1, q, q + 1, n * q - 1, n * q, n * q + 1, MOST_TRAINS, MOST_TRAINS + 1, MOST_WINDOWS,
+                            MOST_WINDOWS + 1, MOST_ORDERS, MOST_ORDERS + 1, UINT8_MAX, UINT8_MAX + 1, UINT32_MAX, (size_t)UINT32_MAX + 1,
+                            (size_t)UINT32_MAX + 1 + n, SIZE_MAX / 2, SIZE_MAX / 2 + 1, SIZE_MAX / 16, SIZE_MAX - 1, SIZE_MAX};
+    return edges[bits() % (sizeof edges / sizeof *edges)];
+}
+
+/* ---- sheets of both forms */
+
+typedef struct {
+    bool fixed; /* of the timetable form */
+    joshkamber_window_sheet windows;
+    joshkamber_timetable_sheet timetable;
+} sheet;
+
+static size_t orders_of(const sheet *s) {
+    return s->fixed ? s->timetable.order_count : s->windows.order_count;
+}
+
+static size_t trains_of(const sheet *s) {
+    return s->fixed ? s->timetable.train_count : s->windows.train_count;
+}
+
+static void draw_capacities(uint32_t *capacity, size_t n, size_t q) {
+    for (size_t i = 0; i < q; i++)
+        capacity[i] = 1;
+    for (size_t rest = n - q; rest > 0;) {
+        uint32_t *places = &capacity[bits() % q];
+        if (*places < 64) {
+            ++*places;
+            rest--;
+        }
+    }
+}
+
+/* Numbers behind the counts are not read: they are out of every range. */
+static void draw_windows(joshkamber_window_sheet *s, size_t n, size_t q) {
+    uint32_t instant = within(0, 3), widest = one_in(2) ? 5 : 50;
+
+    memset(s, 0xff, sizeof *s);
+    s->gap = within(1, one_in(2) ? 2 : 12);
+    s->window_count = within(1, 6);
+    for (size_t m = 0; m < s->window_count; m++) {
+        s->window_from[m] = instant;
+        s->window_to[m] = m + 1 == s->window_count && !one_in(8) ? 5000 : instant + within(0, widest);
+        instant = s->window_to[m] + within(1, 4);
+    }
+    s->train_count = q;
+    draw_capacities(s->capacity, n, q);
+    for (size_t i = 0; i < q; i++)
+        s->running[i] = within(1, 9);
+    s->order_count = n;
+    for (size_t j = 0; j < n; j++) {
+        s->release[j] = within(0, one_in(2) ? 3 : 24);
+        s->due[j] = within(0, 60);
+        s->weight[j] = within(1, 5);
+    }
+}
+
+static void draw_timetable(joshkamber_timetable_sheet *s, size_t n, size_t q) {
+    uint32_t departure = within(0, 30), arrival = departure;
+
+    memset(s, 0xff, sizeof *s);
+    s->train_count = q;
+    draw_capacities(s->capacity, n, q);
+    for (size_t i = 0; i < q; i++) {
+        departure += within(1, 4);
+        arrival = (arrival > departure ? arrival : departure) + within(1, 4);
+        s->departure[i] = departure;
+        s->arrival[i] = arrival;
+    }
+    s->order_count = n;
+    for (size_t j = 0; j < n; j++) {
+        s->release[j] = within(0, 20);
+        s->due[j] = within(0, 60);
+        s->weight[j] = within(1, 5);
+    }
+}
+
+/* Of up to `most` orders; every fourth of the greatest size. */
+static void draw_sheet(sheet *s, uint32_t most) {
+    size_t n = one_in(4) ? most : within(1, most);
+    size_t least = (n + 63) / 64, greatest = n < MOST_TRAINS ? n : MOST_TRAINS;
+    size_t q = one_in(4) ? greatest : within((uint32_t)least, (uint32_t)greatest);
+
+    s->fixed = one_in(2);
+    draw_windows(&s->windows, n, q);
+    draw_timetable(&s->timetable, n, q);
+    met.sheets++;
+}
+
+/* ---- areas */
+
+enum { PAIRS, TRAINS, TIMES, AREAS };
+
+static const size_t element[AREAS] = {sizeof(int64_t), sizeof(uint8_t), sizeof(uint32_t)};
+
+/* Stands in each byte that no call has written. */
+enum { GUARD = 0xa5 };
+
+typedef struct {
+    unsigned char *bytes, *found; /* as they are, and as the last call found them */
+    size_t size;
+    unsigned char *block; /* the pages where they lie, if they are not malloced */
+    size_t block_size;
+    size_t length; /* what calls are told, in elements */
+} area;
+
+typedef struct {
+    area of[AREAS];
+} areas;
+
+/* Bytes against a page that may not be touched, behind them or before them. */
+static void map_pages(area *a) {
+    size_t page = (size_t)sysconf(_SC_PAGESIZE), inner = (a->size + page - 1) / page * page;
+
+    a->block_size = inner + 2 * page;
+    a->block = mmap(NULL, a->block_size, PROT_NONE, MAP_PRIVATE | MAP_ANONYMOUS, -1, 0);
+    MUST(a->block != MAP_FAILED);
+    MUST(inner == 0 || mprotect(a->block + page, inner, PROT_READ | PROT_WRITE) == 0);
+    a->bytes = a->block + page + (one_in(2) ? inner - a->size : 0);
+}
+
+static void lend(area *a, size_t length, size_t size_of_element) {
+    *a = (area){.size = length * size_of_element, .length = length};
+    if (one_in(2))
+        map_pages(a);
+    else
+        a->bytes = malloc(a->size);
+    a->found = malloc(a->size);
+    MUST(a->bytes != NULL && a->found != NULL);
+    memset(a->bytes, GUARD, a->size);
+}
+
+static void give_back(area *a) {
+    free(a->found);
+    if (a->block == NULL)
+        free(a->bytes);
+    else
+        MUST(munmap(a->block, a->block_size) == 0);
+}
+
+/* The length that a sheet of n orders and q trains needs. */
+static size_t needed(int k, size_t n, size_t q) {
+    return k == PAIRS ? 2 * n * q : k == TRAINS ? n : 3 * q;
+}
+
+static void lend_all(areas *lent, const sheet *s) {
+    for (int k = 0; k < AREAS; k++)
+        lend(&lent->of[k], needed(k, orders_of(s), trains_of(s)), element[k]);
+}
+
+static void give_back_all(areas *lent) {
+    for (int k = 0; k < AREAS; k++)
+        give_back(&lent->of[k]);
+}
+
+static void clear(areas *lent) {
+    for (int k = 0; k < AREAS; k++)
+        memset(lent->of[k].bytes, GUARD, lent->of[k].size);
+}
+
+static void keep(areas *lent) {
+    for (int k = 0; k < AREAS; k++)
+        memcpy(lent->of[k].found, lent->of[k].bytes, lent->of[k].size);
+}
+
+/* Nothing from this element on was changed by the last call. */
+static bool as_found_from(const area *a, size_t from, size_t size_of_element) {
+    size_t start = from * size_of_element;
+    return start >= a->size || memcmp(a->bytes + start, a->found + start, a->size - start) == 0;
+}
+
+static bool as_found(const areas *lent) {
+    bool same = true;
+
+    for (int k = 0; k < AREAS; k++)
+        same = as_found_from(&lent->of[k], 0, element[k]) && same;
+    return same;
+}
+
+static int64_t *pairs_in(const areas *lent) {
+    return (int64_t *)lent->of[PAIRS].bytes;
+}
+
+static uint8_t *trains_in(const areas *lent) {
+    return lent->of[TRAINS].bytes;
+}
+
+static uint32_t *times_in(const areas *lent) {
+    return (uint32_t *)lent->of[TIMES].bytes;
+}
+
+/* ---- states */
+
+static bool same_state(const joshkamber_state *a, const joshkamber_state *b) {
+    return a->pairs == b->pairs && a->rounds == b->rounds && a->limit == b->limit && a->last == b->last && a->ended == b->ended &&
+           memcmp(a->order, b->order, MOST_ORDERS) == 0 && memcmp(a->latest, b->latest, MOST_ORDERS) == 0;
+}
+
+static const joshkamber_state no_state; /* noughts */
+
+/* Told where state, sheet and areas are seen not to be those of one search. */
+static bool is_no_search(const joshkamber_round *said) {
+    return said->ended && said->cause.number == 0 && said->pairs == 0 && said->rounds == 0;
+}
+
+/* ---- the calls, each with all that is promised whatever it is given */
+
+static joshkamber_start start(const sheet *s, areas *lent) {
+    const area *a = lent->of;
+
+    keep(lent);
+    joshkamber_start begun =
+        s->fixed ? joshkamber_start_timetable(s->timetable, pairs_in(lent), a[PAIRS].length, trains_in(lent), a[TRAINS].length,
+                                              times_in(lent), a[TIMES].length)
+                 : joshkamber_start_windows(s->windows, pairs_in(lent), a[PAIRS].length, trains_in(lent), a[TRAINS].length, times_in(lent),
+                                            a[TIMES].length);
+    size_t number = begun.cause.number;
+    MUST(as_found(lent));
+    MUST(number == 0 || number == OUT_OF_RANGE || (number >= TOO_MANY && number <= PLACES_DIFFER) || number == AREA_TOO_SHORT);
+    MUST(begun.cause.returned == 0);
+    MUST(number == 0 || same_state(&begun.state, &no_state));
+    met.calls++;
+    met.starts_refused += number != 0;
+    return begun;
+}
+
+static joshkamber_round call_round(joshkamber_state state, const sheet *s, const areas *lent) {
+    const area *a = lent->of;
+
+    return s->fixed ? joshkamber_round_timetable(state, s->timetable, pairs_in(lent), a[PAIRS].length, trains_in(lent), a[TRAINS].length,
+                                                 times_in(lent), a[TIMES].length)
+                    : joshkamber_round_windows(state, s->windows, pairs_in(lent), a[PAIRS].length, trains_in(lent), a[TRAINS].length,
+                                               times_in(lent), a[TIMES].length);
+}
+
+static void check_said(const joshkamber_round *said, const areas *lent) {
+    MUST(said->cause.number == 0 || said->cause.number == NO_SCHEDULE);
+    MUST(said->cause.returned == 0);
+    MUST(said->cause.number == 0 || (said->ended && said->pairs == 0 && said->rounds == 0));
+    MUST(said->ended || (said->pairs == 0 && said->rounds == 0));
+    MUST(said->ended == (said->state.ended != 0) || is_no_search(said));
+    MUST(said->pairs <= lent->of[PAIRS].length / 2);
+}
+
+/* Of each area only the front is written, within the length told. */
+static void check_written(const joshkamber_round *said, const sheet *s, const areas *lent) {
+    const area *a = lent->of;
+
+    for (int k = 0; k < AREAS; k++)
+        MUST(as_found_from(&a[k], a[k].length, element[k]));
+    if (as_found(lent))
+        return;
+    MUST(said->state.pairs <= a[PAIRS].length / 2);
+    MUST(as_found_from(&a[PAIRS], 2 * said->state.pairs, element[PAIRS]));
+    MUST(as_found_from(&a[TRAINS], orders_of(s), element[TRAINS]));
+    MUST(as_found_from(&a[TIMES], 3 * trains_of(s), element[TIMES]));
+}
+
+static joshkamber_round make_round(joshkamber_state state, const sheet *s, areas *lent) {
+    keep(lent);
+    joshkamber_round said = call_round(state, s, lent);
+    bool no_search = is_no_search(&said);
+
+    check_said(&said, lent);
+    check_written(&said, s, lent);
+    if (state.ended != 0 || no_search)
+        MUST(as_found(lent) && same_state(&said.state, &state));
+    else
+        MUST(said.state.rounds == state.rounds + 1 && said.state.pairs <= state.pairs + 1);
+    if (state.pairs > state.rounds)
+        MUST(no_search);
+    met.calls++;
+    met.no_search += no_search;
+    met.going += !said.ended;
+    met.ended += said.ended && !no_search;
+    met.refused += said.cause.number != 0;
+    return said;
+}
+
+static size_t look(joshkamber_state state, areas *lent) {
+    size_t length = lent->of[PAIRS].length;
+
+    keep(lent);
+    size_t seen = joshkamber_look(state, pairs_in(lent), length);
+    MUST(as_found(lent));
+    MUST(seen == (state.pairs <= length / 2 ? state.pairs : 0));
+    met.calls++;
+    met.looks++;
+    return seen;
+}
+
+/* ---- a search as it is meant */
+
+/* What the last round did to the pairs that were seen before it: all but the last are final. */
+static void check_final(size_t before, size_t seen, const areas *lent) {
+    const int64_t *now = pairs_in(lent), *read = (const int64_t *)lent->of[PAIRS].found;
+
+    MUST(before <= seen && seen <= before + 1);
+    if (before == 0)
+        return;
+    size_t last = 2 * (before - 1);
+    MUST(memcmp(now, read, last * sizeof *now) == 0);
+    MUST(now[last] == read[last] && now[last + 1] <= read[last + 1]);
+}
+
+/* The areas hold what listing, and choosing by the last listed arrival, write. */
+static void check_end(const joshkamber_round *said, const sheet *s, const areas *lent) {
+    areas own;
+    lend_all(&own, s);
+    area *a = own.of;
+    joshkamber_listing list = s->fixed ? joshkamber_list_timetable(s->timetable, pairs_in(&own), a[PAIRS].length)
+                                       : joshkamber_list_windows(s->windows, pairs_in(&own), a[PAIRS].length);
+
+    MUST(said->cause.number == list.cause.number && said->pairs == list.pairs && said->rounds == list.rounds);
+    if (list.pairs > 0) {
+        uint32_t wish = (uint32_t)pairs_in(&own)[2 * (list.pairs - 1)];
+        joshkamber_choice choice =
+            s->fixed
+                ? joshkamber_choose_timetable(s->timetable, wish, trains_in(&own), a[TRAINS].length, times_in(&own), a[TIMES].length)
+                : joshkamber_choose_windows(s->windows, wish, trains_in(&own), a[TRAINS].length, times_in(&own), a[TIMES].length);
+        MUST(choice.cause.number == 0 && choice.last == wish);
+    }
+    for (int k = 0; k < AREAS; k++)
+        MUST(memcmp(a[k].bytes, lent->of[k].bytes, a[k].size) == 0);
+    give_back_all(&own);
+}
+
+/* Rounds with looks between, to the end and further. */
+static void whole_search(const sheet *s, areas *lent) {
+    joshkamber_start begun = start(s, lent);
+    joshkamber_round said = {.state = begun.state};
+    size_t rounds = 0, before = 0;
+
+    MUST(begun.cause.number == 0 && look(begun.state, lent) == 0);
+    while (!said.ended) {
+        said = make_round(said.state, s, lent);
+        check_final(before, said.state.pairs, lent);
+        before = said.state.pairs;
+        MUST(said.state.rounds == ++rounds && rounds <= orders_of(s) * trains_of(s));
+        if (one_in(3))
+            MUST(look(said.state, lent) == before);
+    }
+    MUST(!is_no_search(&said));
+    check_end(&said, s, lent);
+    for (uint32_t more = within(1, 3); more > 0; more--) {
+        joshkamber_round again = make_round(said.state, s, lent);
+        MUST(again.ended && again.cause.number == said.cause.number && again.pairs == said.pairs && again.rounds == said.rounds);
+    }
+}
+
+/* A state of a search on this sheet, in these areas, after some rounds. */
+static joshkamber_state some_state(const sheet *s, areas *lent) {
+    clear(lent);
+    joshkamber_state state = start(s, lent).state;
+
+    for (uint32_t rounds = within(0, 6); rounds > 0; rounds--)
+        state = make_round(state, s, lent).state;
+    return state;
+}
+
+/* ---- areas that are too short */
+
+static void check_short(joshkamber_state state, const sheet *s, areas *lent) {
+    joshkamber_round said = make_round(state, s, lent);
+
+    MUST(is_no_search(&said) && start(s, lent).cause.number == AREA_TOO_SHORT);
+    look(state, lent);
+}
+
+/* One area is told to be shorter than needed, with memory behind what is told; then it is as short as told. */
+static void short_areas(const sheet *s, areas *lent) {
+    for (int k = 0; k < AREAS; k++) {
+        size_t whole = lent->of[k].length, lengths[] = {0, whole - 1, bits() % whole};
+
+        for (size_t at = 0; at < sizeof lengths / sizeof *lengths; at++) {
+            joshkamber_state state = some_state(s, lent);
+            areas shorter = *lent;
+            shorter.of[k].length = lengths[at];
+            check_short(state, s, &shorter);
+            lend(&shorter.of[k], lengths[at], element[k]);
+            check_short(state, s, &shorter);
+            give_back(&shorter.of[k]);
+        }
+    }
+}
+
+/* ---- damaged states */
+
+static void damage_field(joshkamber_state *state, size_t n, size_t q) {
+    size_t j = bits() % n, value = edge(n, q);
+
+    switch (within(0, 6)) {
+    case 0: state->pairs = value; break;
+    case 1: state->rounds = value; break;
+    case 2: state->limit = one_in(2) ? (int64_t)value : (int64_t)within(0, 400) - 200; break;
+    case 3: state->last = (uint32_t)value; break;
+    case 4: state->ended = (uint8_t)value; break;
+    case 5: state->order[j] = (uint8_t)value; break;
+    default: state->latest[j] = (uint8_t)value; break;
+    }
+}
+
+static void damage_bytes(joshkamber_state *state, size_t count) {
+    for (unsigned char *bytes = (unsigned char *)state; count > 0; count--)
+        bytes[bits() % sizeof *state] = (unsigned char)bits();
+}
+
+/* A state from which a round can be made, but none of this search: the orders' latest trains, limit, counts and last arrival are changed. */
+static void damage_unseen(joshkamber_state *state, size_t n, size_t q) {
+    state->rounds = bits() % (n * q);
+    state->pairs = state->rounds == 0 ? 0 : bits() % (state->rounds + 1);
+    state->limit = one_in(3) ? INT64_MAX : one_in(2) ? INT64_MIN : (int64_t)within(0, 400) - 200;
+    state->last = one_in(2) ? (uint32_t)bits() : state->last;
+    state->ended = 0;
+    memset(state->latest, one_in(2) ? (int)q : state->latest[0], n);
+}
+
+/* `other` is a state of another sheet. */
+static void damage(joshkamber_state *state, const joshkamber_state *other, size_t n, size_t q) {
+    switch (within(0, 7)) {
+    case 0: damage_bytes(state, 20 * sizeof *state); break;
+    case 1: *state = no_state; break;
+    case 2: *state = *other; break;
+    case 3: damage_bytes(state, within(1, 4)); break;
+    case 4: damage_unseen(state, n, q); break;
+    case 5: damage_field(state, n, q); /* two fields */
+    /* fall through */
+    default: damage_field(state, n, q); break;
+    }
+}
+
+/* Calls go on from a damaged state and come to an end. */
+static void damaged_states(const sheet *s, areas *lent, const joshkamber_state *other) {
+    size_t n = orders_of(s), q = trains_of(s);
+
+    for (int turn = 0; turn < 24; turn++) {
+        joshkamber_state state = some_state(s, lent);
+        damage(&state, other, n, q);
+        size_t rounds = 0;
+        joshkamber_round said;
+        do {
+            look(state, lent);
+            said = make_round(state, s, lent);
+            if (same_state(&state, &no_state) || state.rounds > n * q)
+                MUST(is_no_search(&said));
+            state = said.state;
+            MUST(rounds++ <= n * q);
+        } while (!said.ended);
+    }
+}
+
+/* ---- damaged sheets */
+
+static void damage_windows(joshkamber_window_sheet *s, size_t n, size_t q) {
+    size_t value = edge(n, q), at = bits() % 32;
+
+    switch (within(0, 9)) {
+    case 0: s->gap = (uint32_t)value; break;
+    case 1: case 2: s->window_count = value; break;
+    case 3: case 4: s->train_count = value; break;
+    case 5: case 6: s->order_count = value; break;
+    case 7: s->window_to[at % s->window_count] = (uint32_t)value; break;
+    case 8: s->capacity[at % q] = (uint32_t)value; break;
+    default: s->release[at % n] = (uint32_t)value; break;
+    }
+}
+
+static void damage_timetable(joshkamber_timetable_sheet *s, size_t n, size_t q) {
+    size_t value = edge(n, q), at = bits() % 32;
+
+    switch (within(0, 7)) {
+    case 0: case 1: s->train_count = value; break;
+    case 2: case 3: s->order_count = value; break;
+    case 4: s->capacity[at % q] = (uint32_t)value; break;
+    case 5: s->arrival[at % q] = (uint32_t)value; break;
+    case 6: s->departure[at % q] = (uint32_t)value; break;
+    default: s->weight[at % n] = (uint32_t)value; break;
+    }
+}
+
+/* A round on a sheet that a start refuses is told as no search. */
+static void damaged_sheets(const sheet *s, areas *lent, const joshkamber_state *other) {
+    size_t n = orders_of(s), q = trains_of(s);
+
+    for (int turn = 0; turn < 16; turn++) {
+        joshkamber_state state = some_state(s, lent);
+        sheet spoiled = *s;
+        if (s->fixed)
+            damage_timetable(&spoiled.timetable, n, q);
+        else
+            damage_windows(&spoiled.windows, n, q);
+        if (one_in(4))
+            damage(&state, other, n, q);
+        bool refused = start(&spoiled, lent).cause.number != 0;
+        joshkamber_round said = make_round(state, &spoiled, lent);
+        MUST(is_no_search(&said) || !refused);
+        look(said.state, lent);
+    }
+}
+
+/* ---- */
+
+static void check_layout(void) {
+    MUST(sizeof(joshkamber_state) == 432);
+    MUST(offsetof(joshkamber_state, limit) == 16 && offsetof(joshkamber_state, last) == 24 && offsetof(joshkamber_state, ended) == 28);
+    MUST(offsetof(joshkamber_state, order) == 29 && offsetof(joshkamber_state, latest) == 229);
+    MUST(sizeof(joshkamber_start) == 448 && offsetof(joshkamber_start, state) == 16);
+    MUST(sizeof(joshkamber_round) == 472 && offsetof(joshkamber_round, ended) == 16 && offsetof(joshkamber_round, pairs) == 24);
+    MUST(offsetof(joshkamber_round, rounds) == 32 && offsetof(joshkamber_round, state) == 40);
+}
+
+static void check_sheet(uint32_t most_orders) {
+    static joshkamber_state other;
+    sheet s;
+    areas lent;
+
+    draw_sheet(&s, most_orders);
+    lend_all(&lent, &s);
+    whole_search(&s, &lent);
+    short_areas(&s, &lent);
+    damaged_states(&s, &lent, &other);
+    damaged_sheets(&s, &lent, &other);
+    other = some_state(&s, &lent);
+    give_back_all(&lent);
+}
+
+int main(void) {
+    alarm(300); /* a call that does not return ends the program */
+    check_layout();
+    for (int turn = 0; turn < 600; turn++)
+        check_sheet(9);
+    for (int turn = 0; turn < 60; turn++)
+        check_sheet(40);
+    for (int turn = 0; turn < 6; turn++)
+        check_sheet(MOST_ORDERS);
+    printf("watching: %zu calls on %zu sheets: %zu looks, %zu starts refused, %zu rounds that go on, %zu ends (%zu without a schedule), %zu told as "
+           "no search\n",
+           met.calls, met.sheets, met.looks, met.starts_refused, met.going, met.ended, met.refused, met.no_search);
+    MUST(met.going > 10000 && met.ended > 1000 && met.refused > 100 && met.no_search > 10000 && met.starts_refused > 1000);
+    return 0;
+}
