@@ -89,7 +89,8 @@ c_test() {
     c_program "tests/$1.c" -g -O1 -fsanitize=address,undefined -fno-sanitize-recover=all && "$work/$1"
 }
 
-# every stored hard sheet is timed, in listing, choosing, checking and round by round; both planners agree on pairs and rounds, and ours takes at most 1.5 times as long
+# every stored hard sheet is timed, in listing, choosing, checking and round by round; both planners agree on pairs and rounds, and ours takes at most
+# 1.5 times as long
 benchmark() {
     (cd binding && cargo run -q --release --offline --bin bench -- 3) >"$work/bench" 2>&1
     status=$?

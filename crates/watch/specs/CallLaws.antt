@@ -37,18 +37,6 @@ module _ (s : Sheet) (lent : SearchAreas) (t : Admission) (is : t ≡ start-to s
   abbrev start-gives : State → Started
   start-gives x = record { admission = t; state = x }
 
-  pub start-refused : (f : Refusal) → t ≡ Refused f → StartCall s lent (start-gives no-state)
-  start-refused f e =
-      let refuses = start-refuses s lent in
-      record {
-        equal = is;
-        begins = λ u. absurd (let z : _≡_ {A = ℕ} 0 1 = cc in omega arith);
-        beside = λ l. refl;
-        no-eight = rw is (refuses .no-eight);
-        no-nine = rw is (refuses .no-nine);
-        returns-zero = rw is (refuses .returns-zero);
-      }
-
   -- before the first round nothing is recorded, and the areas are as lent
   areas-begun : lent ≡ areas-by s (start s) lent
   unfolding areas-by start last-plan plan-left listed pair-numbers
@@ -72,6 +60,18 @@ module _ (s : Sheet) (lent : SearchAreas) (t : Admission) (is : t ≡ start-to s
         equal = is;
         begins = λ u. left-begun u p shows;
         beside = λ l. absurd (omega (arith, l, ap numberOf e));
+        no-eight = rw is (refuses .no-eight);
+        no-nine = rw is (refuses .no-nine);
+        returns-zero = rw is (refuses .returns-zero);
+      }
+
+  pub start-refused : (f : Refusal) → t ≡ Refused f → StartCall s lent (start-gives no-state)
+  start-refused f e =
+      let refuses = start-refuses s lent in
+      record {
+        equal = is;
+        begins = λ u. absurd (let z : _≡_ {A = ℕ} 0 1 = cc in omega arith);
+        beside = λ l. refl;
         no-eight = rw is (refuses .no-eight);
         no-nine = rw is (refuses .no-nine);
         returns-zero = rw is (refuses .returns-zero);

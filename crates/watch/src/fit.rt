@@ -8,7 +8,8 @@ ghost use Rattle.numbers.specs.DecidesLaws.{Decides};
 ghost use Rattle.model.specs.Memory.{sheetOf};
 ghost use Rattle.watch.specs.Fit.{Fits};
 
-// The sheet passes the tests, the areas have room, no more pairs are recorded than rounds were made, and while the search goes on a round can be made.
+// The sheet passes the tests, the areas have room, no more pairs are recorded than rounds were made and no more of these than n × q, and while the search
+// goes on a round can be made.
 pub fn fits(state: State, sheet: Sheet, pairs: usize, trains: usize, times: usize) -> bool
     ensures { λ r. ⌜ Decides (Fits (sheetOf sheet) state pairs trains times) r ⌝ }
 {
