@@ -4,6 +4,7 @@ use Prim.Native.Nat.{ℕ}
 use lib.Dec.{eqb}
 use lib.IntN.{pos}
 use lib.ListN.{replicate}
+use Rattle.model.specs.Limits.{order-counts, train-counts}
 use Rattle.model.specs.declared.Refusal.the-variants.{NoSchedule}
 use Rattle.model.specs.declared.RoundReply.{RoundReply}
 use Rattle.model.specs.declared.RoundReply.the-variants.{GoesOn, Ended, Refused}
@@ -12,7 +13,16 @@ use Rattle.watch.specs.declared.State.{State}
 
 -- the state of no search
 abbrev pub no-state : State
-no-state = record { pairs = 0; rounds = 0; limit = pos 0; last = 0; ended = 0; order = replicate 200 0; latest = replicate 200 0 }
+no-state =
+    record {
+      pairs = 0;
+      rounds = 0;
+      limit = pos 0;
+      last = 0;
+      ended = 0;
+      order = replicate (order-counts .most) 0;
+      latest = replicate (order-counts .most) 0;
+    }
 
 -- the progress that a state stands for; the plan of the last round is not kept
 abbrev pub progress-of : State → Progress
@@ -20,10 +30,10 @@ progress-of x =
     record {
       order = x .order;
       latest = x .latest;
-      train = replicate 200 0;
-      departure = replicate 32 0;
-      arrival = replicate 32 0;
-      window = replicate 32 0;
+      train = replicate (order-counts .most) 0;
+      departure = replicate (train-counts .most) 0;
+      arrival = replicate (train-counts .most) 0;
+      window = replicate (train-counts .most) 0;
       better = false;
       limit = x .limit;
       last = x .last;
