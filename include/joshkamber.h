@@ -31,7 +31,7 @@ enum {
  *    4  one more of a kind than allowed                  11  the wished arrival is before the first listed one
  *    5  a kind is missing                                12  a plan has not one departure for each train and one row for each order
  *    6  windows, departures or arrivals out of order     13  a plan breaks a rule: it is no schedule
- *    7  the capacities do not add up to the number of orders
+ *    7  the capacities add up to less than the number of orders
  *
  * `returned` is the line, from 1, where a reading call refuses with 1, 2, 3, 4 or 6, and else 0. */
 typedef struct {
@@ -40,7 +40,8 @@ typedef struct {
 } joshkamber_cause;
 
 /* A sheet of the window form, in columns. The first `order_count` elements of each order column are orders, and so with trains and windows; what
- * stands behind them is not read. Times are whole minutes. */
+ * stands behind them is not read. Times are whole minutes. A train carries at most as many orders as its capacity, and may leave with empty places;
+ * every train of the sheet runs, an empty one too, and the last arrival is that of the last train. */
 typedef struct {
     uint32_t gap;
     size_t window_count;
@@ -165,9 +166,10 @@ joshkamber_listing joshkamber_list_timetable(joshkamber_timetable_sheet sheet, i
  * that the first listed pair is not later than the wish: refusals 2 and 4 to 11. The lent areas, with their lengths in elements:
  *
  *    train_of_order   at least n        the train, from 1, of each order
- *    times            at least 3 q      departure, arrival and window of each train
+ *    times            at least 3 q      departure, arrival and window of each train, of an empty one too
  *
  * Windows count from 1 in the order of the sheet, and a train's window is the one that contains its departure; in the timetable form it is 0.
+ * A train that no order rides waits only for its gap and window.
  *
  * Only the front of each area is written (n and 3 q elements), and nothing where the call refuses. */
 joshkamber_choice joshkamber_choose_windows(joshkamber_window_sheet sheet, uint32_t wish, uint8_t *train_of_order,
@@ -178,14 +180,14 @@ joshkamber_choice joshkamber_choose_timetable(joshkamber_timetable_sheet sheet, 
 /* Checks a plan made elsewhere: says yes (number 0) exactly if it is a schedule, with its pair and whether that is listed. The plan is lent to be
  * read, with its lengths in elements; it may hold any numbers:
  *
- *    departures       q                 the departure of each train, in the order of the sheet
+ *    departures       q                 the departure of each train, in the order of the sheet, of an empty one too
  *    rows             n                 each order with its train; the rows stand in any order
  *
  * Arrivals are not asked for: they follow from the departures, as in our own plans. Tests the sheet and the pairs area as listing does, and then
  *
  *    12  if there are not q departures, not n rows, an order is met twice or is not one of 1 to n, or a train is not one of 1 to q;
- *    13  if a train has not as many orders as places, leaves before the release of one of them, outside the windows, or less than the gap behind
- *        the train ahead; in the timetable form, if one of the departures is not the sheet's.
+ *    13  if a train, be it empty or not, has more orders than places, leaves before the release of one of them, outside the windows, or less than
+ *        the gap behind the train ahead; in the timetable form, if one of the departures is not the sheet's.
  *
  * So the refusals are 2, 4 to 7, 10, 12 and 13. There is no 8, since a plan that passes is a schedule.
  *

@@ -51,7 +51,7 @@ no_test_in_src() {
 rust_tests() {
     (cd "$1" && cargo test --release --offline --no-fail-fast -- --nocapture) >"$work/cargo" 2>&1
     status=$?
-    grep -E '^(checking|listing|stored sheets|watching|test result|differs|error)|FAILED|panicked' "$work/cargo"
+    grep -E '^(checking|listing|planning|stored sheets|texts|watching|test result|differs|error)|FAILED|panicked' "$work/cargo"
     counts=$(sed -n 's/^test result: .* \([0-9][0-9]*\) passed; \([0-9][0-9]*\) failed;.*/\1 \2/p' "$work/cargo")
     good=$(echo "$counts" | awk '{ sum += $1 } END { print sum + 0 }')
     bad=$(echo "$counts" | awk '{ sum += $2 } END { print sum + 0 }')
@@ -89,13 +89,13 @@ c_test() {
     c_program "tests/$1.c" -g -O1 -fsanitize=address,undefined -fno-sanitize-recover=all && "$work/$1"
 }
 
-# every stored hard sheet is timed, in listing, choosing, checking and round by round; both planners agree on pairs and rounds, and ours takes at most
-# 1.5 times as long
+# every stored hard sheet, full or short, is timed, in listing, choosing, checking and round by round; both planners agree on pairs and rounds, and ours
+# takes at most 1.5 times as long
 benchmark() {
-    (cd binding && cargo run -q --release --offline --bin bench -- 3) >"$work/bench" 2>&1
+    (cd binding && cargo run -q --release --offline --bin bench -- 2) >"$work/bench" 2>&1
     status=$?
     cat "$work/bench"
-    [ "$status" -eq 0 ] && tail -n 1 "$work/bench" | grep -q '^bench: .* of [1-9][0-9]* ratios at most 1.5'
+    [ "$status" -eq 0 ] && grep -q ' 5[0-9]*-short-' "$work/bench" && tail -n 1 "$work/bench" | grep -q '^bench: .* of [1-9][0-9]* ratios at most 1.5'
 }
 
 package native

@@ -1,6 +1,7 @@
 /* Searches that are watched, as a caller from C may have them: lists of calls in areas of exactly the length needed, in too short ones, from
- * damaged states and on damaged sheets, of both forms. Each call must return, keep to the areas, and answer as include/joshkamber.h says. The areas
- * are malloced, or lie against a page that may not be touched: the library itself is not built for the sanitisers.
+ * damaged states and on damaged sheets, of both forms, with and without places to spare. Each call must return, keep to the areas, and answer as
+ * include/joshkamber.h says. The areas are malloced, or lie against a page that may not be touched: the library itself is not built for the
+ * sanitisers.
  *
  *    cc -g -fsanitize=address,undefined -I include tests/watching.c target/staticlib/libcapi.a -o watching && ./watching
  *
@@ -18,7 +19,10 @@
 enum { MOST_WINDOWS = JOSHKAMBER_MOST_WINDOWS, MOST_TRAINS = JOSHKAMBER_MOST_TRAINS, MOST_ORDERS = JOSHKAMBER_MOST_ORDERS };
 
 /* The numbers of the refusals. */
-enum { OUT_OF_RANGE = 2, TOO_MANY = 4, PLACES_DIFFER = 7, NO_SCHEDULE = 8, AREA_TOO_SHORT = 10 };
+enum { OUT_OF_RANGE = 2, TOO_MANY = 4, TOO_FEW_PLACES = 7, NO_SCHEDULE = 8, AREA_TOO_SHORT = 10 };
+
+/* A train has no more places. */
+enum { MOST_CAPACITY = 64 };
 
 /* ---- what must hold */
 
@@ -31,7 +35,7 @@ static void wrong(int line, const char *what) {
 
 /* What was met, to be told at the end. */
 static struct {
-    size_t sheets, calls, looks, going, ended, refused, no_search, starts_refused;
+    size_t sheets, to_spare, empty_train, calls, looks, going, ended, refused, no_search, starts_refused, too_few_places;
 } met;
 
 /* ---- drawn numbers: splitmix64 with a fixed seed */
@@ -77,20 +81,33 @@ static size_t trains_of(const sheet *s) {
     return s->fixed ? s->timetable.train_count : s->windows.train_count;
 }
 
-static void draw_capacities(uint32_t *capacity, size_t n, size_t q) {
+static const uint32_t *capacities_of(const sheet *s) {
+    return s->fixed ? s->timetable.capacity : s->windows.capacity;
+}
+
+/* Of a sheet with no more trains than allowed. */
+static size_t places_of(const sheet *s) {
+    size_t places = 0;
+
+    for (size_t i = 0; i < trains_of(s); i++)
+        places += capacities_of(s)[i];
+    return places;
+}
+
+static void draw_capacities(uint32_t *capacity, size_t places, size_t q) {
     for (size_t i = 0; i < q; i++)
         capacity[i] = 1;
-    for (size_t rest = n - q; rest > 0;) {
-        uint32_t *places = &capacity[bits() % q];
-        if (*places < 64) {
-            ++*places;
+    for (size_t rest = places - q; rest > 0;) {
+        size_t i = bits() % q;
+        if (capacity[i] < MOST_CAPACITY) {
+            capacity[i]++;
             rest--;
         }
     }
 }
 
 /* Numbers behind the counts are not read: they are out of every range. */
-static void draw_windows(joshkamber_window_sheet *s, size_t n, size_t q) {
+static void draw_windows(joshkamber_window_sheet *s, size_t n, size_t q, size_t places) {
     uint32_t instant = within(0, 3), widest = one_in(2) ? 5 : 50;
 
     memset(s, 0xff, sizeof *s);
@@ -102,7 +119,7 @@ static void draw_windows(joshkamber_window_sheet *s, size_t n, size_t q) {
         instant = s->window_to[m] + within(1, 4);
     }
     s->train_count = q;
-    draw_capacities(s->capacity, n, q);
+    draw_capacities(s->capacity, places, q);
     for (size_t i = 0; i < q; i++)
         s->running[i] = within(1, 9);
     s->order_count = n;
@@ -113,12 +130,12 @@ static void draw_windows(joshkamber_window_sheet *s, size_t n, size_t q) {
     }
 }
 
-static void draw_timetable(joshkamber_timetable_sheet *s, size_t n, size_t q) {
+static void draw_timetable(joshkamber_timetable_sheet *s, size_t n, size_t q, size_t places) {
     uint32_t departure = within(0, 30), arrival = departure;
 
     memset(s, 0xff, sizeof *s);
     s->train_count = q;
-    draw_capacities(s->capacity, n, q);
+    draw_capacities(s->capacity, places, q);
     for (size_t i = 0; i < q; i++) {
         departure += within(1, 4);
         arrival = (arrival > departure ? arrival : departure) + within(1, 4);
@@ -133,16 +150,18 @@ static void draw_timetable(joshkamber_timetable_sheet *s, size_t n, size_t q) {
     }
 }
 
-/* Of up to `most` orders; every fourth of the greatest size. */
+/* Of up to `most` orders; every fourth of the greatest size. Every second one has places to spare: a few, or many. */
 static void draw_sheet(sheet *s, uint32_t most) {
-    size_t n = one_in(4) ? most : within(1, most);
-    size_t least = (n + 63) / 64, greatest = n < MOST_TRAINS ? n : MOST_TRAINS;
-    size_t q = one_in(4) ? greatest : within((uint32_t)least, (uint32_t)greatest);
+    uint32_t n = one_in(4) ? most : within(1, most);
+    uint32_t places = one_in(2) ? n : n + within(1, one_in(2) ? 3 : 2 * n);
+    uint32_t least = (places + MOST_CAPACITY - 1) / MOST_CAPACITY, greatest = places < MOST_TRAINS ? places : MOST_TRAINS;
+    uint32_t q = one_in(4) ? greatest : within(least, greatest);
 
     s->fixed = one_in(2);
-    draw_windows(&s->windows, n, q);
-    draw_timetable(&s->timetable, n, q);
+    draw_windows(&s->windows, n, q, places);
+    draw_timetable(&s->timetable, n, q, places);
     met.sheets++;
+    met.to_spare += places > n;
 }
 
 /* ---- areas */
@@ -274,11 +293,14 @@ static joshkamber_start start(const sheet *s, areas *lent) {
                                             a[TIMES].length);
     size_t number = begun.cause.number;
     MUST(as_found(lent));
-    MUST(number == 0 || number == OUT_OF_RANGE || (number >= TOO_MANY && number <= PLACES_DIFFER) || number == AREA_TOO_SHORT);
+    MUST(number == 0 || number == OUT_OF_RANGE || (number >= TOO_MANY && number <= TOO_FEW_PLACES) || number == AREA_TOO_SHORT);
     MUST(begun.cause.returned == 0);
     MUST(number == 0 || same_state(&begun.state, &no_state));
+    if (number == 0 || number == TOO_FEW_PLACES || number == AREA_TOO_SHORT)
+        MUST((number == TOO_FEW_PLACES) == (places_of(s) < orders_of(s)));
     met.calls++;
     met.starts_refused += number != 0;
+    met.too_few_places += number == TOO_FEW_PLACES;
     return begun;
 }
 
@@ -361,6 +383,22 @@ static void check_final(size_t before, size_t seen, const areas *lent) {
     MUST(now[last] == read[last] && now[last + 1] <= read[last + 1]);
 }
 
+/* Every order of the plan rides a train, and no train has more orders than places. Gives whether a train is empty. */
+static bool check_loads(const sheet *s, const uint8_t *train_of_order) {
+    size_t load[MOST_TRAINS] = {0};
+    bool empty = false;
+
+    for (size_t j = 0; j < orders_of(s); j++) {
+        MUST(train_of_order[j] >= 1 && train_of_order[j] <= trains_of(s));
+        load[train_of_order[j] - 1]++;
+    }
+    for (size_t i = 0; i < trains_of(s); i++) {
+        MUST(load[i] <= capacities_of(s)[i]);
+        empty = empty || load[i] == 0;
+    }
+    return empty;
+}
+
 /* The areas hold what listing, and choosing by the last listed arrival, write. */
 static void check_end(const joshkamber_round *said, const sheet *s, const areas *lent) {
     areas own;
@@ -377,6 +415,7 @@ static void check_end(const joshkamber_round *said, const sheet *s, const areas 
                 ? joshkamber_choose_timetable(s->timetable, wish, trains_in(&own), a[TRAINS].length, times_in(&own), a[TIMES].length)
                 : joshkamber_choose_windows(s->windows, wish, trains_in(&own), a[TRAINS].length, times_in(&own), a[TIMES].length);
         MUST(choice.cause.number == 0 && choice.last == wish);
+        met.empty_train += check_loads(s, trains_in(&own));
     }
     for (int k = 0; k < AREAS; k++)
         MUST(memcmp(a[k].bytes, lent->of[k].bytes, a[k].size) == 0);
@@ -591,9 +630,12 @@ int main(void) {
         check_sheet(40);
     for (int turn = 0; turn < 6; turn++)
         check_sheet(MOST_ORDERS);
-    printf("watching: %zu calls on %zu sheets: %zu looks, %zu starts refused, %zu rounds that go on, %zu ends (%zu without a schedule), %zu told as "
-           "no search\n",
-           met.calls, met.sheets, met.looks, met.starts_refused, met.going, met.ended, met.refused, met.no_search);
+    printf("watching: %zu calls on %zu sheets (%zu with places to spare, %zu with an empty train in the last plan): %zu looks, %zu starts refused (%zu "
+           "for want of places), %zu rounds that go on, %zu ends (%zu without a schedule), %zu told as no search\n",
+           met.calls, met.sheets, met.to_spare, met.empty_train, met.looks, met.starts_refused, met.too_few_places, met.going, met.ended, met.refused,
+           met.no_search);
     MUST(met.going > 10000 && met.ended > 1000 && met.refused > 100 && met.no_search > 10000 && met.starts_refused > 1000);
+    MUST(4 * met.to_spare > met.sheets && 4 * (met.sheets - met.to_spare) > met.sheets && 10 * met.empty_train > met.sheets);
+    MUST(met.too_few_places > 100);
     return 0;
 }

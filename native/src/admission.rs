@@ -11,7 +11,7 @@ pub fn admit(sheet: &Sheet) -> Result<(), Refusal> {
         (KIND_MISSING, complete(sheet)),
         (OUT_OF_RANGE, in_range(sheet)),
         (OUT_OF_ORDER, in_order(sheet)),
-        (PLACES_DIFFER, places_match(sheet)),
+        (TOO_FEW_PLACES, sheet.spare_places().is_some()),
     ];
     match tests.iter().find(|(_, passed)| !passed) {
         Some(&(number, _)) => Err(Refusal::of_all(number)),
@@ -66,9 +66,4 @@ fn in_order(sheet: &Sheet) -> bool {
             departure.iter().zip(arrival).all(|(s, f)| s < f) && rising(departure) && rising(arrival)
         }
     }
-}
-
-/// The sum is taken in u64: a capacity may be any u32 here.
-fn places_match(sheet: &Sheet) -> bool {
-    sheet.capacity.iter().map(|&places| u64::from(places)).sum::<u64>() == sheet.orders.len() as u64
 }

@@ -20,7 +20,7 @@ pub fn agrees(implementation: &Implementation, sheet: &Sheet, seen: &Seen) -> bo
 /// The listed pairs are the front, and the rounds keep to their bound; refused with 8 where there is no schedule.
 fn lists_front(implementation: &Implementation, sheet: &Sheet, front: &[Pair]) -> bool {
     match (implementation.list)(sheet) {
-        Ok(listing) => !front.is_empty() && listing.pairs == front && listing.rounds <= most_rounds(&sheet.capacity),
+        Ok(listing) => !front.is_empty() && listing.pairs == front && listing.rounds <= most_rounds(sheet),
         Err(refusal) => front.is_empty() && refusal == Refusal::of_all(NO_SCHEDULE),
     }
 }

@@ -92,11 +92,11 @@ fn index_of(number: u32, count: usize) -> Option<usize> {
     (index < count).then_some(index)
 }
 
-/// Train i carries exactly k_i orders, each with release <= S_i.
+/// Train i carries at most k_i orders, each with release <= S_i.
 fn loads_fit(sheet: &Sheet, loads: &[Vec<usize>], departures: &[u32]) -> bool {
-    let full = |i: usize| loads[i].len() == sheet.capacity[i] as usize;
+    let has_places = |i: usize| loads[i].len() <= sheet.capacity[i] as usize;
     let released = |i: usize| loads[i].iter().all(|&j| sheet.orders.release[j] <= departures[i]);
-    (0..loads.len()).all(|i| full(i) && released(i))
+    (0..loads.len()).all(|i| has_places(i) && released(i))
 }
 
 /// Each S_i lies in a window, and S_i >= S_(i-1) + g; by timetable the departures are the fixed ones. The sum is taken in u64: a departure may be

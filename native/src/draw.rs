@@ -1,29 +1,91 @@
-//! Drawn sheets of both forms.
+//! Drawn sheets of both forms: full ones, whose capacities add up to the number of orders, and short ones, with places to spare.
 
 use crate::limits::*;
 use crate::rng::Rng;
 use crate::sheet::{Form, Orders, Paths, Sheet, Timetable, Windows};
 
-/// A sheet of small numbers: many ties, touching windows, fast trains behind slow ones, at times no schedule.
+/// Up to so many orders every loading of a small sheet is to be listed: a short one has no more than a full one of nine orders may have.
+const LISTED_ORDERS: u32 = 9;
+const MOST_LOADINGS: usize = 362_880;
+
+/// A sheet of small numbers: many ties, touching windows, fast trains behind slow ones, at times no schedule. Every second one is full.
 pub fn small(rng: &mut Rng, form: Form, most_orders: u32) -> Sheet {
-    match form {
-        Form::Windows => small_windows(rng, most_orders),
-        Form::Timetable => small_timetable(rng, most_orders),
+    if rng.one_in(2) {
+        small_full(rng, form, most_orders)
+    } else {
+        small_short(rng, form, most_orders)
     }
 }
 
-/// A sheet of `n` orders and `q` trains with numbers anywhere in their ranges.
+/// The capacities add up to the number of orders.
+pub fn small_full(rng: &mut Rng, form: Form, most_orders: u32) -> Sheet {
+    let n = rng.within(1, most_orders);
+    small_of(rng, form, n)
+}
+
+/// One place to spare, a few, or many.
+pub fn small_short(rng: &mut Rng, form: Form, most_orders: u32) -> Sheet {
+    let n = rng.within(1, most_orders);
+    let places = (n + drawn_spare(rng, n)).min(MOST_CAPACITY);
+    let mut full = std::iter::repeat_with(|| small_of(rng, form, places));
+    let listed = |sheet: &Sheet| n > LISTED_ORDERS || sheet.capacity.len().saturating_pow(n) <= MOST_LOADINGS;
+    short(full.find(listed).expect("there are sheets without end"), n)
+}
+
+/// A full sheet of `n` orders.
+fn small_of(rng: &mut Rng, form: Form, n: u32) -> Sheet {
+    match form {
+        Form::Windows => small_windows(rng, n),
+        Form::Timetable => small_timetable(rng, n),
+    }
+}
+
+/// A sheet of `n` orders and `q` trains with numbers anywhere in their ranges. It is full every second time, if it can be full.
 pub fn big(rng: &mut Rng, form: Form, n: u32, q: usize) -> Sheet {
+    let most_places = MOST_CAPACITY * q as u32;
+    if n == most_places || q as u32 <= n && rng.one_in(2) {
+        big_full(rng, form, n, q)
+    } else {
+        big_short(rng, form, n, q)
+    }
+}
+
+/// The capacities add up to the number of orders, which are no fewer than the trains.
+pub fn big_full(rng: &mut Rng, form: Form, n: u32, q: usize) -> Sheet {
     match form {
         Form::Windows => big_windows(rng, n, q),
         Form::Timetable => big_timetable(rng, n, q),
     }
 }
 
-/// Numbers of orders and trains, anywhere in their limits, such that each order finds a place and each train an order.
+/// One place to spare, a few, or many; trains may outnumber the orders.
+pub fn big_short(rng: &mut Rng, form: Form, n: u32, q: usize) -> Sheet {
+    let places = (n + drawn_spare(rng, n)).clamp(q as u32, MOST_CAPACITY * q as u32);
+    short(big_full(rng, form, places, q), n)
+}
+
+/// Numbers of orders and trains, anywhere in their limits, such that each order finds a place. Trains may outnumber the orders.
 pub fn drawn_size(rng: &mut Rng) -> (u32, usize) {
     let n = rng.within(1, MOST_ORDERS as u32);
-    (n, rng.within(n.div_ceil(MOST_CAPACITY), n.min(MOST_TRAINS as u32)) as usize)
+    (n, rng.within(n.div_ceil(MOST_CAPACITY), MOST_TRAINS as u32) as usize)
+}
+
+/// How many places are left by `n` orders: one, a few, or many.
+fn drawn_spare(rng: &mut Rng, n: u32) -> u32 {
+    match rng.index(4) {
+        0 => 1,
+        1 => rng.within(2, 5),
+        2 => rng.within(1, n),
+        _ => rng.within(n, 4 * n),
+    }
+}
+
+/// A full sheet of which all orders but the first `n` are left out.
+fn short(mut sheet: Sheet, n: u32) -> Sheet {
+    let Orders { release, due, weight } = &mut sheet.orders;
+    [release, due, weight].iter_mut().for_each(|column| column.truncate(n as usize));
+    assert!(sheet.spare_places() > Some(0));
+    sheet
 }
 
 /// `total` places on `q` trains.
@@ -55,9 +117,9 @@ fn small_orders(rng: &mut Rng, n: u32, last_departure: u32) -> Orders {
     drawn_orders(rng, n, last_release, last_due, heaviest)
 }
 
-fn small_windows(rng: &mut Rng, most_orders: u32) -> Sheet {
-    let n = rng.within(1, most_orders);
-    let q = if n > 1 && !rng.one_in(6) { rng.within(2, n.min(4)) } else { rng.within(1, n) } as usize;
+fn small_windows(rng: &mut Rng, n: u32) -> Sheet {
+    let most_trains = n.min(MOST_TRAINS as u32);
+    let q = if n > 1 && !rng.one_in(6) { rng.within(2, n.min(4)) } else { rng.within(1, most_trains) } as usize;
     let widest = rng.pick(&[1, 2, 5, 12]);
     let gap = rng.within(1, widest);
     let capacity = capacities(rng, n, q);
@@ -79,9 +141,8 @@ fn small_windows(rng: &mut Rng, most_orders: u32) -> Sheet {
     Sheet { capacity, paths: Paths::Windows(windows), orders }
 }
 
-fn small_timetable(rng: &mut Rng, most_orders: u32) -> Sheet {
-    let n = rng.within(1, most_orders);
-    let q = rng.within(1, n) as usize;
+fn small_timetable(rng: &mut Rng, n: u32) -> Sheet {
+    let q = rng.within(1, n.min(MOST_TRAINS as u32)) as usize;
     let capacity = capacities(rng, n, q);
     let mut timetable = Timetable::default();
     let (mut departure, mut arrival) = (rng.within(0, 4), 0);

@@ -81,19 +81,22 @@ fn other_departures(rng: &mut Rng, sheet: &Sheet, schedule: &ForeignPlan) -> Vec
     instants.into_iter().map(with).collect()
 }
 
-/// One order on another train, which has one too many then, and its own one too few; on a train that is not there; two orders on each other's trains.
+/// One order on another train, which may have no place left; on a train that is not there; one order too many on a train; two orders on each other's
+/// trains.
 fn other_trains(rng: &mut Rng, sheet: &Sheet, schedule: &ForeignPlan) -> Vec<Damaged> {
     let (_, q) = sheet.size();
     let at = rng.index(schedule.rows.len());
     let train = schedule.rows[at].train;
-    let with = |train: u32, number: usize| {
+    let with = |train: u32, number: Option<usize>| {
         let mut plan = schedule.clone();
         plan.rows[at].train = train;
-        Damaged { plan, number: Some(number) }
+        Damaged { plan, number }
     };
     let not_there = [0, q as u32 + 1, train + BYTE, train + BYTE * BYTE, u32::MAX];
-    let mut all: Vec<Damaged> = not_there.iter().map(|&train| with(train, WRONG_ROWS)).collect();
-    all.push(with(rng.within(1, q as u32), RULE_BROKEN));
+    let mut all: Vec<Damaged> = not_there.iter().map(|&train| with(train, Some(WRONG_ROWS))).collect();
+    let other = rng.within(1, q as u32);
+    all.push(with(other, (!has_place(sheet, schedule, other)).then_some(RULE_BROKEN)));
+    all.extend(one_too_many(rng, sheet, schedule));
     for _ in 0..3 {
         let mut plan = schedule.clone();
         let other = rng.index(plan.rows.len());
@@ -101,6 +104,25 @@ fn other_trains(rng: &mut Rng, sheet: &Sheet, schedule: &ForeignPlan) -> Vec<Dam
         all.push(Damaged { plan, number: None });
     }
     all
+}
+
+fn has_place(sheet: &Sheet, schedule: &ForeignPlan, train: u32) -> bool {
+    let riders = schedule.rows.iter().filter(|row| row.train == train).count();
+    riders < sheet.capacity[train as usize - 1] as usize
+}
+
+/// A train gets orders until it has one more than places, if there are so many.
+fn one_too_many(rng: &mut Rng, sheet: &Sheet, schedule: &ForeignPlan) -> Option<Damaged> {
+    let (n, q) = sheet.size();
+    let i = rng.index(q);
+    let (train, places) = (i as u32 + 1, sheet.capacity[i] as usize);
+    if places >= n {
+        return None;
+    }
+    let mut plan = schedule.clone();
+    plan.rows.sort_by_key(|row| row.train != train);
+    plan.rows[..=places].iter_mut().for_each(|row| row.train = train);
+    Some(Damaged { plan, number: Some(RULE_BROKEN) })
 }
 
 /// One row with another order: one that is met twice then, or one that is not there.
@@ -142,7 +164,7 @@ fn other_lengths(rng: &mut Rng, schedule: &ForeignPlan) -> Vec<Damaged> {
     changes.iter().map(with).collect()
 }
 
-/// A plan with the sheet's orders on full trains, by release or in any order, and with departures that wait for releases, gap and windows, and at
+/// A plan with the sheet's orders on drawn places, by release or in any order, and with departures that wait for releases, gap and windows, and at
 /// times for nothing or too long. Most often it is a schedule, if the sheet has one.
 pub fn drawn(rng: &mut Rng, sheet: &Sheet) -> ForeignPlan {
     let (n, _) = sheet.size();
@@ -154,7 +176,7 @@ pub fn drawn(rng: &mut Rng, sheet: &Sheet) -> ForeignPlan {
         1 => orders.sort_by_key(|order| release(order) / 4),
         _ => orders.sort_by_key(release),
     }
-    let trains = (1..).zip(&sheet.capacity).flat_map(|(train, &places)| std::iter::repeat_n(train, places as usize));
+    let trains = drawn_places(rng, sheet);
     let rows: Vec<Row> = orders.into_iter().zip(trains).map(|(order, train)| Row { order, train }).collect();
     let latest_release = |train: usize| {
         let riders = rows.iter().filter(|row| row.train as usize == train);
@@ -166,6 +188,22 @@ pub fn drawn(rng: &mut Rng, sheet: &Sheet) -> ForeignPlan {
         Paths::Timetable(timetable) => timetable.departure.clone(),
     };
     shuffled(rng, &ForeignPlan { departures, rows })
+}
+
+/// The train of each place that is taken, by rising trains: places left over anywhere, or trains filled one by one, so that others are empty. A capacity
+/// may be any number here, and more places than orders are never taken.
+fn drawn_places(rng: &mut Rng, sheet: &Sheet) -> Vec<u32> {
+    let (n, q) = sheet.size();
+    let mut trains: Vec<u32> = (1..=q as u32).collect();
+    shuffle(rng, &mut trains);
+    let places_of = |&train: &u32| std::iter::repeat_n(train, n.min(sheet.capacity[train as usize - 1] as usize));
+    let mut places: Vec<u32> = trains.iter().flat_map(places_of).collect();
+    if rng.one_in(2) {
+        shuffle(rng, &mut places);
+    }
+    places.truncate(n);
+    places.sort_unstable();
+    places
 }
 
 fn drawn_departures(rng: &mut Rng, windows: &Windows, releases: &[u32]) -> Vec<u32> {

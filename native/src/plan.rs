@@ -37,6 +37,13 @@ pub struct Plan {
     pub times: Vec<Times>,
 }
 
+impl Plan {
+    /// The trains, from 1, that carry no order.
+    pub fn empty_trains(&self) -> Vec<usize> {
+        (1..=self.times.len()).filter(|&i| !self.train_of_order.contains(&(i as u8))).collect()
+    }
+}
+
 /// A pair with its plan.
 #[derive(Clone, Debug, PartialEq, Eq)]
 pub struct Entry {

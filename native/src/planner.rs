@@ -83,8 +83,9 @@ pub fn room(sheet: &Sheet) -> (usize, usize) {
     (n.min(MOST_ORDERS), q.min(MOST_TRAINS))
 }
 
-/// No search makes more rounds than this: 1 and, for each train but the last, the places up to it.
-pub fn most_rounds(capacity: &[u32]) -> usize {
-    let places_to = |i: usize| capacity[..i].iter().sum::<u32>() as usize;
-    1 + (1..capacity.len()).map(places_to).sum::<usize>()
+/// No search makes more rounds than this: 1 and, for each train but the last, the places up to it, or the orders if these are fewer.
+pub fn most_rounds(sheet: &Sheet) -> usize {
+    let (n, q) = sheet.size();
+    let places_to = |i: usize| sheet.capacity[..i].iter().sum::<u32>() as usize;
+    1 + (1..q).map(|i| n.min(places_to(i))).sum::<usize>()
 }

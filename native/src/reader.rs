@@ -105,8 +105,8 @@ impl Draft {
         if kinds.iter().any(|&kind| self.count(kind).0 == 0) {
             return Err(Refusal::of_all(KIND_MISSING));
         }
-        if self.capacity.iter().sum::<u32>() as usize != self.orders.len() {
-            return Err(Refusal::of_all(PLACES_DIFFER));
+        if (self.capacity.iter().sum::<u32>() as usize) < self.orders.len() {
+            return Err(Refusal::of_all(TOO_FEW_PLACES));
         }
         let paths = match form {
             Form::Windows => Paths::Windows(self.windows),

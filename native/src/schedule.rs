@@ -12,7 +12,7 @@ pub fn pair_of(sheet: &Sheet, plan: &Plan) -> Option<Pair> {
         Paths::Windows(windows) => timed_in_windows(windows, &plan.times),
         Paths::Timetable(timetable) => timed_by_timetable(timetable, &plan.times),
     };
-    if timed && every_train_full(&sheet.capacity, plan) {
+    if timed && no_train_overfull(&sheet.capacity, plan) {
         loaded_pair(sheet, plan)
     } else {
         None
@@ -39,9 +39,9 @@ fn timed_by_timetable(timetable: &Timetable, times: &[Times]) -> bool {
     fixed.eq(times.iter().map(|train| (&train.departure, &train.arrival)))
 }
 
-fn every_train_full(capacity: &[u32], plan: &Plan) -> bool {
+fn no_train_overfull(capacity: &[u32], plan: &Plan) -> bool {
     let load = |i: usize| plan.train_of_order.iter().filter(|&&train| usize::from(train) == i + 1).count();
-    (0..capacity.len()).all(|i| load(i) == capacity[i] as usize)
+    (0..capacity.len()).all(|i| load(i) <= capacity[i] as usize)
 }
 
 /// None if an order rides no train, or one that departs before its release.

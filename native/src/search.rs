@@ -29,8 +29,8 @@ impl Recorded {
 #[derive(Clone, Debug, PartialEq, Eq)]
 pub struct Search {
     /// Of each order: its train in the last round, and its latest train.
-    train: Vec<u8>,
-    latest: Vec<u8>,
+    pub train: Vec<u8>,
+    pub latest: Vec<u8>,
     /// Of each train, in the last round: the greatest release on it, and its times.
     greatest: Vec<u32>,
     times: Vec<Times>,
@@ -117,22 +117,31 @@ const WAITS: u8 = 128;
 const NUMBER_BITS: u32 = 8;
 const NUMBER_MASK: u32 = (1 << NUMBER_BITS) - 1;
 
-/// Step 1 by direct picks. Also gives the greatest release on each train.
+/// Step 1 by direct picks. Also gives the greatest release on each train; 0 where it is empty.
 fn load(release: &[u32], capacity: &[u32], latest: &[u8], train: &mut [u8], greatest: &mut [u32]) {
     for (mark, last) in train.iter_mut().zip(latest) {
         *mark = WAITS + last;
     }
     for i in (0..capacity.len()).rev() {
-        let this = i as u8 + 1;
-        for pick in 0..capacity[i] {
-            let key = greatest_waiting(release, train, WAITS + this);
-            debug_assert!(key > 0, "step 5 leaves enough orders for each train");
-            train[(key & NUMBER_MASK) as usize - 1] = this;
-            if pick == 0 {
-                greatest[i] = key >> NUMBER_BITS;
-            }
+        greatest[i] = fill(release, capacity[i], i as u8 + 1, train);
+    }
+    debug_assert!(train.iter().all(|&mark| mark < WAITS), "step 5 leaves a place for every order");
+}
+
+/// Puts orders on a train until it is full or none waits for it, and gives the greatest release on it.
+fn fill(release: &[u32], places: u32, this: u8, train: &mut [u8]) -> u32 {
+    let mut greatest = 0;
+    for pick in 0..places {
+        let key = greatest_waiting(release, train, WAITS + this);
+        if key == 0 {
+            break;
+        }
+        train[(key & NUMBER_MASK) as usize - 1] = this;
+        if pick == 0 {
+            greatest = key >> NUMBER_BITS;
         }
     }
+    greatest
 }
 
 /// The key of the order to take next; 0 if none waits for this train. Keys fit in an i32, for which x86-64 compares many at once.

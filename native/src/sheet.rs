@@ -92,4 +92,10 @@ impl Sheet {
     pub fn size(&self) -> (usize, usize) {
         (self.orders.len(), self.capacity.len())
     }
+
+    /// How many places are left if each order has one; none if there are too few. A capacity may be any u32 here.
+    pub fn spare_places(&self) -> Option<usize> {
+        let places: usize = self.capacity.iter().map(|&places| places as usize).sum();
+        places.checked_sub(self.orders.len())
+    }
 }

@@ -16,8 +16,23 @@ pub enum Outcome {
     Nothing,
 }
 
+/// A round's loading: the latest trains that it keeps to, and the train of each order.
+#[derive(Clone, Debug, PartialEq, Eq)]
+pub struct Loading {
+    pub latest: Vec<usize>,
+    pub train: Vec<u8>,
+}
+
+impl Loading {
+    /// How many orders ride train i.
+    pub fn load(&self, i: usize) -> usize {
+        self.train.iter().filter(|&&train| usize::from(train) == i).count()
+    }
+}
+
 #[derive(Clone, Debug, Default, PartialEq, Eq)]
 pub struct Trace {
+    pub loadings: Vec<Loading>,
     pub outcomes: Vec<Outcome>,
     /// The listed pairs with their plans.
     pub entries: Vec<Entry>,
@@ -39,11 +54,12 @@ pub fn trace(sheet: &Sheet) -> Trace {
     let mut trace = Trace::default();
     loop {
         let loads = load(sheet, &latest);
+        let train = train_of_order(&loads, n);
+        trace.loadings.push(Loading { latest: latest.clone(), train: train.clone() });
         let Some(times) = times_of(sheet, &loads) else {
             trace.end_round(Outcome::Stopped);
             return trace;
         };
-        let train = train_of_order(&loads, n);
         let worst =
             (0..n).map(|j| sheet.orders.lateness(j, times[usize::from(train[j]) - 1].arrival)).max().expect("an order");
         if limit.is_none_or(|y| worst < y) {

@@ -1,15 +1,18 @@
 //! Checking of plans from elsewhere: our own, damaged, drawn and wild ones with their rows in any order, and every plan of small sheets.
 
 use crate::checked::Compared;
+use crate::share::{any_empty, Share};
+use crate::size::Size;
 use crate::spoil::spoil;
 use binding::areas::CheckAreas;
 use binding::calls::{Check, Row};
 use binding::product::PRODUCT;
 use native::admission::admit;
 use native::checking::{self, Checked, ForeignPlan};
-use native::draw::{big, drawn_size, small};
+use native::draw::small;
 use native::every_plan::{check_every_plan, plan_count, Tally};
-use native::foreign::{damaged, drawn, shuffled, wild};
+use native::foreign::{damaged, drawn, shuffled, wild, Damaged};
+use native::plan::Entry;
 use native::reader::read;
 use native::refusal::*;
 use native::rng::Rng;
@@ -22,61 +25,92 @@ use std::ops::RangeInclusive;
 /// Of a sheet's listed pairs at most about so many have their plans damaged.
 const MOST_DAMAGED: usize = 12;
 
-/// How many plans were said to be what, by the number of the refusal; 0 for a schedule.
+/// The sheets; how many plans were said to be what, by the number of the refusal, 0 for a schedule; and of the schedules, how many are listed, are of a
+/// sheet with places to spare, and have an empty train.
 #[derive(Debug, Default)]
 struct Met {
+    share: Share,
     numbers: [usize; NUMBER_COUNT],
     listed: usize,
+    to_spare: usize,
+    empty_train: usize,
 }
 
 impl Met {
-    fn meet(&mut self, answer: &Result<Checked, Refusal>) {
-        self.numbers[answer.as_ref().map_or_else(|refusal| refusal.number, |_| 0)] += 1;
-        self.listed += usize::from(answer.is_ok_and(|checked| checked.listed));
+    /// The product says of the plan what the independent implementation says.
+    fn check(&mut self, compared: &Compared, plan: &ForeignPlan, rng: &mut Rng) -> Result<Checked, Refusal> {
+        let answer = compared.check_plan(plan, rng);
+        self.numbers[answer.map_or_else(|refusal| refusal.number, |_| 0)] += 1;
+        if let Ok(checked) = answer {
+            self.listed += usize::from(checked.listed);
+            self.to_spare += usize::from(compared.sheet.spare_places() > Some(0));
+            self.empty_train += usize::from(has_empty_train(plan));
+        }
+        answer
     }
 
-    /// At least so many were listed, not listed, and refused with each of these numbers.
+    /// More than so many were listed, not listed, of a full sheet, of one with places to spare, with an empty train, and refused with each of these
+    /// numbers.
     fn each_above(&self, least: usize, refusals: &[usize]) -> bool {
-        let not_listed = self.numbers[0] - self.listed;
-        let refused = refusals.iter().map(|&number| self.numbers[number]);
-        refused.chain([self.listed, not_listed]).all(|count| count > least)
+        let Met { numbers, listed, to_spare, empty_train, .. } = *self;
+        let schedules = [listed, numbers[0] - listed, to_spare, numbers[0] - to_spare, empty_train];
+        let refused = refusals.iter().map(|&number| numbers[number]);
+        refused.chain(schedules).all(|count| count > least)
     }
 
     fn print(&self, what: &str) {
-        let Met { numbers, listed } = self;
-        let (plans, schedules) = (numbers.iter().sum::<usize>(), numbers[0]);
-        println!("checking, {what}: {plans} plans compared ({schedules} schedules, {listed} of them listed)");
+        let Met { share, numbers, listed, to_spare, empty_train } = self;
+        print!("checking, {what}: {} plans compared on {share}; ", numbers.iter().sum::<usize>());
+        println!(
+            "{} schedules, {listed} of them listed, {to_spare} with places to spare, {empty_train} with an empty train",
+            numbers[0]
+        );
     }
 }
 
-fn compared(sheet: &Sheet) -> (Compared<'_>, Option<Recorded>) {
-    let recorded = admit(sheet).and_then(|()| search(sheet));
+fn has_empty_train(plan: &ForeignPlan) -> bool {
+    (1..=plan.departures.len() as u32).any(|train| plan.rows.iter().all(|row| row.train != train))
+}
+
+/// A sheet, which is met if it is admitted, with the independent planner's listing of it and the plans of its pairs.
+fn compared<'a>(sheet: &'a Sheet, met: &mut Met) -> (Compared<'a>, Vec<Entry>) {
+    let admitted = admit(sheet);
+    let recorded = admitted.and_then(|()| search(sheet));
     let listed = recorded.as_ref().map(Recorded::listing).map_err(|&refusal| refusal);
-    (Compared { sheet, listed }, recorded.ok())
+    let entries = recorded.map_or(Vec::new(), |recorded| recorded.entries);
+    if admitted.is_ok() {
+        met.share.meet(sheet, any_empty(&entries));
+    }
+    (Compared { sheet, listed }, entries)
 }
 
 /// Our own plan of each listed pair, which is said to be listed, and damaged ones; and drawn ones.
 fn check_sheet(sheet: &Sheet, rng: &mut Rng, met: &mut Met) {
-    let (compared, recorded) = compared(sheet);
-    let entries = recorded.map_or(Vec::new(), |recorded| recorded.entries);
+    let (compared, entries) = compared(sheet, met);
     for (at, entry) in entries.iter().enumerate() {
         let own = shuffled(rng, &(&entry.plan).into());
-        let answer = compared.check_plan(&own, rng);
+        let answer = met.check(&compared, &own, rng);
         assert!(answer.is_ok_and(|own| own.listed && own.pair == entry.pair), "{own:?} {sheet:?}");
-        met.meet(&answer);
         if at % entries.len().div_ceil(MOST_DAMAGED) == 0 {
-            let damaged = damaged(rng, sheet, &own);
-            damaged.iter().for_each(|damaged| met.meet(&compared.check_plan(&damaged.plan, rng)));
+            check_damaged(&compared, &own, rng, met);
         }
     }
     check_drawn(&compared, rng, met);
+}
+
+/// Each damage of a schedule, with the refusal that it leads to.
+fn check_damaged(compared: &Compared, schedule: &ForeignPlan, rng: &mut Rng, met: &mut Met) {
+    for Damaged { plan, number } in damaged(rng, compared.sheet, schedule) {
+        let met = met.check(compared, &plan, rng).err().map(|refusal| refusal.number);
+        assert!(number.is_none() || number == met, "{plan:?} {:?}", compared.sheet);
+    }
 }
 
 /// A drawn plan, which is often a schedule, and one that is so seldom.
 fn check_drawn(compared: &Compared, rng: &mut Rng, met: &mut Met) {
     let (n, q) = compared.sheet.size();
     let plans = [drawn(rng, compared.sheet), wild(rng, n, q)];
-    plans.iter().for_each(|plan| met.meet(&compared.check_plan(plan, rng)));
+    plans.iter().for_each(|plan| _ = met.check(compared, plan, rng));
 }
 
 /// As a C compiler lays out what include/joshkamber.h declares, on x86-64.
@@ -107,16 +141,12 @@ fn guards_tell_what_was_written() {
 fn random_sheets() {
     let mut rng = Rng::new(108);
     for form in FORMS {
-        let mut met = Met::default();
-        for (sheets, most_orders) in [(15_000, 9), (1_500, 40)] {
-            (0..sheets).for_each(|_| check_sheet(&small(&mut rng, form, most_orders), &mut rng, &mut met));
+        for (sheets, size) in [(15_000, Size::UpTo(9)), (1_500, Size::UpTo(40)), (200, Size::Any)] {
+            let mut met = Met::default();
+            (0..sheets).for_each(|_| check_sheet(&size.draw(&mut rng, form), &mut rng, &mut met));
+            met.print(&format!("{form:?}, {size}"));
+            assert!(met.each_above(sheets / 10, &[WRONG_ROWS, RULE_BROKEN]) && met.share.is_good(), "{met:?}");
         }
-        for _ in 0..200 {
-            let (n, q) = drawn_size(&mut rng);
-            check_sheet(&big(&mut rng, form, n, q), &mut rng, &mut met);
-        }
-        met.print(&format!("{form:?}"));
-        assert!(met.each_above(10_000, &[WRONG_ROWS, RULE_BROKEN]), "{met:?}");
     }
 }
 
@@ -131,13 +161,13 @@ fn spoiled_sheets() {
         for _ in 0..rng.within(1, 3) {
             spoil(&mut rng, &mut sheet);
         }
-        let (compared, _) = compared(&sheet);
-        met.meet(&compared.check_plan(&plan, &mut rng));
+        let (compared, _) = compared(&sheet, &mut met);
+        _ = met.check(&compared, &plan, &mut rng);
         check_drawn(&compared, &mut rng, &mut met);
     }
-    met.print("spoiled sheets");
-    let possible = [OUT_OF_RANGE, TOO_MANY, KIND_MISSING, OUT_OF_ORDER, PLACES_DIFFER, WRONG_ROWS, RULE_BROKEN];
-    assert!(met.each_above(1_000, &possible), "{met:?}");
+    met.print("spoiled");
+    let possible = [OUT_OF_RANGE, TOO_MANY, KIND_MISSING, OUT_OF_ORDER, TOO_FEW_PLACES, WRONG_ROWS, RULE_BROKEN];
+    assert!(met.each_above(1_000, &possible) && met.share.is_good(), "{met:?}");
 }
 
 #[test]
@@ -149,8 +179,8 @@ fn stored_sheets_agree() {
             check_sheet(&reading.sheet, &mut rng, &mut met);
         }
     }
-    met.print("stored sheets");
-    assert!(met.each_above(200, &[WRONG_ROWS, RULE_BROKEN]), "{met:?}");
+    met.print("stored");
+    assert!(met.each_above(150, &[WRONG_ROWS, RULE_BROKEN]) && met.share.is_good(), "{met:?}");
 }
 
 /// Every plan of sheets that have few, against the listing of every schedule.
@@ -160,15 +190,17 @@ fn every_plan_of_small_sheets() {
     const SHEETS: usize = 300;
     let mut rng = Rng::new(111);
     for form in FORMS {
-        let mut tally = Tally::default();
+        let (mut tally, mut share) = (Tally::default(), Share::default());
         let drawn = std::iter::repeat_with(|| small(&mut rng, form, 5));
-        let sheets = drawn.filter(|sheet| PLANS.contains(&plan_count(sheet))).take(SHEETS);
-        sheets.for_each(|sheet| check_every_plan(&PRODUCT, &sheet, &mut tally));
+        for sheet in drawn.filter(|sheet| PLANS.contains(&plan_count(sheet))).take(SHEETS) {
+            check_every_plan(&PRODUCT, &sheet, &mut tally);
+            share.meet_searched(&sheet);
+        }
         let Tally { plans, listed, not_listed, differ } = tally;
         println!(
-            "checking, {form:?}: every plan of {SHEETS} sheets, {plans} compared, {differ} differ ({} schedules, {listed} of them listed)",
+            "checking, {form:?}: every plan of {share}, {plans} compared, {differ} differ ({} schedules, {listed} of them listed)",
             listed + not_listed
         );
-        assert!(differ == 0 && listed.min(not_listed) > 100, "{tally:?}");
+        assert!(differ == 0 && listed.min(not_listed) > 100 && share.is_good(), "{tally:?} {share:?}");
     }
 }

@@ -1,11 +1,14 @@
 use crate::chosen::check_choosing;
+use crate::ladders::ladders;
 use crate::listed::check_listing;
+use crate::share::{any_empty, Share};
+use crate::size::Size;
 use crate::spoil::spoil;
 use binding::areas::{PairsArea, PlanAreas};
 use binding::exported::ExportedSheet;
 use native::admission::admit;
-use native::draw::{big, drawn_size, small};
-use native::ladder::{ladder_timetable, ladder_windows, Ladder};
+use native::draw::{big, small};
+use native::ladder::Ladder;
 use native::limits::MOST_TRAINS;
 use native::reader::read;
 use native::refusal::*;
@@ -16,26 +19,41 @@ use native::stored::stored_sheets;
 use native::wishes::wishes;
 
 /// At least so many stored sheets are read.
-const LEAST_READ: usize = 80;
+const LEAST_READ: usize = 120;
 
-/// The product lists and chooses as the independent planner does, whose rounds are made once for all wishes.
-/// Gives the number of each refusal, or 0: of listing, then of choosing by each wish.
-fn check_planning(sheet: &Sheet, rng: &mut Rng) -> Vec<usize> {
-    let recorded = admit(sheet).and_then(|()| search(sheet));
-    let recorded = recorded.as_ref().map_err(|&refusal| refusal);
-    let listed = recorded.map(Recorded::listing);
-    check_listing(sheet, &listed, rng);
-    let mut met = vec![number_of(&listed)];
-    for wish in wishes(&listed.map_or(Vec::new(), |listing| listing.pairs)) {
-        let chosen = recorded.and_then(|recorded| recorded.chosen(wish));
-        check_choosing(sheet, wish, &chosen, rng);
-        met.push(number_of(&chosen));
-    }
-    met
+/// The admitted sheets, and how often each refusal was met, or none under 0: in listing, and in choosing by each wish.
+#[derive(Debug, Default)]
+pub struct Met {
+    pub share: Share,
+    pub numbers: [usize; NUMBER_COUNT],
 }
 
-fn number_of<T>(answer: &Result<T, Refusal>) -> usize {
-    answer.as_ref().err().map_or(0, |refusal| refusal.number)
+impl Met {
+    /// The product lists and chooses as the independent planner does, whose rounds are made once for all wishes.
+    pub fn check(&mut self, sheet: &Sheet, rng: &mut Rng) {
+        let admitted = admit(sheet);
+        let recorded = admitted.and_then(|()| search(sheet));
+        if admitted.is_ok() {
+            self.share.meet(sheet, recorded.as_ref().is_ok_and(|recorded| any_empty(&recorded.entries)));
+        }
+        let recorded = recorded.as_ref().map_err(|&refusal| refusal);
+        let listed = recorded.map(Recorded::listing);
+        check_listing(sheet, &listed, rng);
+        self.meet(&listed);
+        for wish in wishes(&listed.map_or(Vec::new(), |listing| listing.pairs)) {
+            let chosen = recorded.and_then(|recorded| recorded.chosen(wish));
+            check_choosing(sheet, wish, &chosen, rng);
+            self.meet(&chosen);
+        }
+    }
+
+    fn meet<T>(&mut self, answer: &Result<T, Refusal>) {
+        self.numbers[answer.as_ref().err().map_or(0, |refusal| refusal.number)] += 1;
+    }
+
+    fn print(&self, what: &str) {
+        println!("planning, {what}: {} answers compared on {}", self.numbers.iter().sum::<usize>(), self.share);
+    }
 }
 
 #[test]
@@ -72,54 +90,54 @@ fn three_numbers_a_train() {
 fn random_sheets() {
     let mut rng = Rng::new(101);
     for form in FORMS {
-        for (sheets, most_orders) in [(20_000, 9), (3_000, 40)] {
-            for _ in 0..sheets {
-                check_planning(&small(&mut rng, form, most_orders), &mut rng);
-            }
-        }
-        for _ in 0..300 {
-            let (n, q) = drawn_size(&mut rng);
-            check_planning(&big(&mut rng, form, n, q), &mut rng);
+        for (sheets, size) in [(20_000, Size::UpTo(9)), (3_000, Size::UpTo(40)), (300, Size::Any)] {
+            let mut met = Met::default();
+            (0..sheets).for_each(|_| met.check(&size.draw(&mut rng, form), &mut rng));
+            met.print(&format!("{form:?}, {size}"));
+            assert!(met.share.is_good(), "{met:?}");
         }
     }
 }
 
 #[test]
-fn ladders() {
+fn many_rounds() {
     let mut rng = Rng::new(102);
+    let mut met = Met::default();
     for (release, stir) in [(0, 0), (9, 0), (300, 3), (3_000, 50)] {
         let ladder = Ladder { release, stir, shuffled: stir > 0 };
-        let sheets = [
-            ladder_windows(&mut rng, 120, 24, ladder, release),
-            ladder_windows(&mut rng, 120, 24, ladder, 0),
-            ladder_timetable(&mut rng, 120, 24, ladder),
-        ];
-        for sheet in sheets {
-            assert_eq!(check_planning(&sheet, &mut rng)[0], 0, "a ladder has a plan");
-        }
+        ladders(&mut rng, 120, 24, ladder).iter().for_each(|sheet| met.check(sheet, &mut rng));
     }
+    met.print("ladders");
+    assert!(met.numbers[NO_SCHEDULE] == 0 && met.share.is_good(), "{met:?}");
 }
 
 #[test]
 fn spoiled_sheets() {
     let mut rng = Rng::new(103);
-    let mut met = [0; NUMBER_COUNT];
+    let (mut met, mut drawn) = (Met::default(), Share::default());
     for turn in 0..40_000 {
         let mut sheet = small(&mut rng, FORMS[turn % 2], 9);
+        drawn.meet_searched(&sheet);
         for _ in 0..rng.within(1, 3) {
             spoil(&mut rng, &mut sheet);
         }
-        check_planning(&sheet, &mut rng).iter().for_each(|&number| met[number] += 1);
+        met.check(&sheet, &mut rng);
     }
-    let possible = [0, OUT_OF_RANGE, TOO_MANY, KIND_MISSING, OUT_OF_ORDER, PLACES_DIFFER, NO_SCHEDULE, WISH_TOO_EARLY];
-    assert!(possible.iter().all(|&number| met[number] > 100), "{met:?}");
+    met.print("spoiled");
+    let possible = [0, OUT_OF_RANGE, TOO_MANY, KIND_MISSING, OUT_OF_ORDER, TOO_FEW_PLACES, NO_SCHEDULE, WISH_TOO_EARLY];
+    assert!(possible.iter().all(|&number| met.numbers[number] > 100), "{met:?}");
+    assert!(met.share.is_good() && drawn.is_good(), "{met:?} {drawn:?}");
 }
 
 #[test]
 fn stored_sheets_agree() {
     let mut rng = Rng::new(106);
-    let texts = stored_sheets().into_iter().map(|stored| stored.text);
-    let sheets: Vec<Sheet> = texts.filter_map(|text| Some(read(&text, Form::of(&text)).ok()?.sheet)).collect();
-    sheets.iter().for_each(|sheet| _ = check_planning(sheet, &mut rng));
-    assert!(sheets.len() >= LEAST_READ, "{} stored sheets", sheets.len());
+    let mut met = Met::default();
+    for stored in stored_sheets() {
+        if let Ok(reading) = read(&stored.text, Form::of(&stored.text)) {
+            met.check(&reading.sheet, &mut rng);
+        }
+    }
+    met.print("stored");
+    assert!(met.share.sheets >= LEAST_READ && met.share.is_good(), "{met:?}");
 }

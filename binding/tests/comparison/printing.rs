@@ -10,7 +10,7 @@ fn stored_sheets_print_as_stored() {
     for sheet in &stored {
         assert_eq!(print_by(&PRODUCT, &sheet.text), sheet.plan, "{}", sheet.name);
         for form in FORMS {
-            check_reading(&sheet.text, form);
+            _ = check_reading(&sheet.text, form);
         }
     }
     println!("stored sheets: {} printed by the product as stored", stored.len());

@@ -25,14 +25,39 @@ fn resize(rng: &mut Rng, columns: &mut [&mut Vec<u32>], most: usize) {
     columns.iter_mut().for_each(|column| column.resize(rows, 1));
 }
 
+/// Moves capacities by one, here and there, until they add up to `places`. Gives whether trains can have so many.
+pub fn set_places(rng: &mut Rng, capacity: &mut [u32], places: u32) -> bool {
+    let q = capacity.len() as u32;
+    if q == 0 || !(q..=MOST_CAPACITY * q).contains(&places) {
+        return false;
+    }
+    capacity.iter_mut().for_each(|k| *k = (*k).clamp(1, MOST_CAPACITY));
+    let mut sum: u32 = capacity.iter().sum();
+    while sum != places {
+        let k = &mut capacity[rng.index(q as usize)];
+        let moved = if sum < places { *k + 1 } else { *k - 1 };
+        if CAPACITY.contains(&moved) {
+            (sum, *k) = (sum + moved - *k, moved);
+        }
+    }
+    true
+}
+
 pub fn spoil(rng: &mut Rng, sheet: &mut Sheet) {
-    if rng.one_in(3) {
-        return spoil_orders(rng, &mut sheet.orders);
+    match rng.index(6) {
+        0 | 1 => spoil_orders(rng, &mut sheet.orders),
+        2 => spoil_places(rng, sheet),
+        _ => match &mut sheet.paths {
+            Paths::Windows(windows) => spoil_windows(rng, windows, &mut sheet.capacity),
+            Paths::Timetable(timetable) => spoil_timetable(rng, timetable, &mut sheet.capacity),
+        },
     }
-    match &mut sheet.paths {
-        Paths::Windows(windows) => spoil_windows(rng, windows, &mut sheet.capacity),
-        Paths::Timetable(timetable) => spoil_timetable(rng, timetable, &mut sheet.capacity),
-    }
+}
+
+/// One place too few, as many as orders, or one to spare.
+fn spoil_places(rng: &mut Rng, Sheet { capacity, orders, .. }: &mut Sheet) {
+    let places = (orders.len() as u32 + rng.within(0, 2)).saturating_sub(1);
+    set_places(rng, capacity, places);
 }
 
 fn spoil_orders(rng: &mut Rng, Orders { release, due, weight }: &mut Orders) {

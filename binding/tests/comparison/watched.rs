@@ -65,6 +65,10 @@ impl Both<'_> {
         Ok(Both { sheet, exported, areas, state: start.state, own: answer?, own_areas, said, rounds, seen })
     }
 
+    pub fn sheet(&self) -> &Sheet {
+        self.sheet
+    }
+
     pub fn said(&self) -> Said {
         self.said
     }
@@ -110,8 +114,8 @@ impl Both<'_> {
         assert!(areas.guarded_but([numbers.len(), trains, times]), "{sheet:?}");
     }
 
-    /// The end is what the product's own listing, and its choice by the last listed arrival, come to.
-    pub fn check_end(&self) {
+    /// The end is what the product's own listing, and its choice by the last listed arrival, come to. Gives whether a train is empty in that plan.
+    pub fn check_end(&self) -> bool {
         let Both { sheet, areas, said, .. } = self;
         let listed = (PRODUCT.list)(sheet);
         let pairs = listed.as_ref().map_or(Vec::new(), |listing| listing.pairs.clone());
@@ -121,11 +125,11 @@ impl Both<'_> {
         };
         assert_eq!(*said, end, "{sheet:?}");
         assert_eq!(areas.pairs.first(2 * pairs.len()), numbers_of(&pairs), "{sheet:?}");
-        if let Some(last) = pairs.last() {
-            let plan = (PRODUCT.choose)(sheet, last.arrival).expect("a listed arrival").plan;
-            let times = time_numbers(&plan.times);
-            assert_eq!(areas.plan.train_of_order.first(plan.train_of_order.len()), plan.train_of_order, "{sheet:?}");
-            assert_eq!(areas.plan.times.first(times.len()), times, "{sheet:?}");
-        }
+        let Some(last) = pairs.last() else { return false };
+        let plan = (PRODUCT.choose)(sheet, last.arrival).expect("a listed arrival").plan;
+        let times = time_numbers(&plan.times);
+        assert_eq!(areas.plan.train_of_order.first(plan.train_of_order.len()), plan.train_of_order, "{sheet:?}");
+        assert_eq!(areas.plan.times.first(times.len()), times, "{sheet:?}");
+        !plan.empty_trains().is_empty()
     }
 }

@@ -1,13 +1,17 @@
 //! The search by single rounds: lists of calls on drawn and stored sheets, refused starts, and damaged states.
 
+use crate::ladders::ladders;
+use crate::share::Share;
+use crate::size::Size;
 use crate::spoil::spoil;
 use crate::states::{damaged, is_taken};
 use crate::watched::{reply_of, Both, NO_STATE};
 use binding::areas::SearchAreas;
 use binding::calls::{look, Round, Start, State};
 use binding::exported::ExportedSheet;
-use native::draw::{big, drawn_size, small};
-use native::ladder::{ladder_timetable, ladder_windows, Ladder};
+use native::admission::admit;
+use native::draw::small;
+use native::ladder::Ladder;
 use native::planner::Counts;
 use native::reader::read;
 use native::refusal::*;
@@ -20,7 +24,7 @@ use std::mem::{offset_of, size_of};
 /// What was met.
 #[derive(Debug, Default)]
 struct Met {
-    searches: usize,
+    share: Share,
     calls: usize,
     rounds: usize,
     replaced: usize,
@@ -29,12 +33,14 @@ struct Met {
 
 impl Met {
     fn print(&self, what: &str) {
-        let Met { searches, calls, rounds, replaced, refused } = self;
-        println!("watching, {what}: {searches} searches in {calls} calls compared ({rounds} rounds, {refused} searches without a schedule; {replaced} looks at a replaced pair)");
+        let Met { share, calls, rounds, replaced, refused } = self;
+        print!("watching, {what}: {calls} calls compared of searches on {share}; ");
+        println!("{rounds} rounds, {refused} searches without a schedule, {replaced} looks at a replaced pair");
     }
 
+    /// Meets a search at its end.
     fn meet(&mut self, search: &Both) {
-        self.searches += 1;
+        self.share.meet(search.sheet(), search.check_end());
         self.rounds += search.rounds();
         self.refused += usize::from(matches!(search.said(), Said::Refused(_)));
     }
@@ -52,10 +58,7 @@ impl Met {
             self.calls += 1;
             further -= usize::from(searches.iter().all(|search| search.said() != Said::GoesOn));
         }
-        for search in searches {
-            search.check_end();
-            self.meet(search);
-        }
+        searches.iter().for_each(|search| self.meet(search));
     }
 
     /// The whole search, with a look behind each round.
@@ -68,9 +71,8 @@ impl Met {
             self.calls += 2;
             assert!(search.rounds() <= n * q, "{sheet:?}");
         }
-        search.check_end();
-        (0..2).for_each(|_| search.round());
         self.meet(&search);
+        (0..2).for_each(|_| search.round());
     }
 }
 
@@ -109,34 +111,33 @@ fn guards_tell_what_was_written() {
 fn random_sheets() {
     let mut rng = Rng::new(112);
     for form in FORMS {
-        let mut met = Met::default();
-        for (turns, most_orders) in [(4_000, 9), (800, 32)] {
+        for (turns, size) in [(4_000, Size::UpTo(9)), (800, Size::UpTo(32))] {
+            let mut met = Met::default();
             for _ in 0..turns {
-                let sheets = [(); 2].map(|()| small(&mut rng, form, most_orders));
+                let sheets = [(); 2].map(|()| size.draw(&mut rng, form));
                 let mut searches: Vec<Both> = sheets.iter().map(|sheet| started(sheet, &mut rng)).collect();
                 met.take_turns(&mut searches, &mut rng);
             }
+            met.print(&format!("{form:?}, {size}"));
+            assert!(met.replaced > turns / 4 && met.refused > turns / 20 && met.share.is_good(), "{met:?}");
         }
-        for _ in 0..150 {
-            let (n, q) = drawn_size(&mut rng);
-            met.run(&big(&mut rng, form, n, q), &mut rng);
-        }
-        met.print(&format!("{form:?}"));
-        assert!(met.replaced > 1_000 && met.refused > 100, "{met:?}");
+        let mut met = Met::default();
+        (0..150).for_each(|_| met.run(&Size::Any.draw(&mut rng, form), &mut rng));
+        met.print(&format!("{form:?}, {}", Size::Any));
+        assert!(met.replaced > 1_000 && met.share.is_good(), "{met:?}");
     }
 }
 
 #[test]
-fn ladders() {
+fn many_rounds() {
     let mut rng = Rng::new(113);
     let mut met = Met::default();
     for (release, stir) in [(0, 0), (300, 3), (3_000, 50)] {
         let ladder = Ladder { release, stir, shuffled: stir > 0 };
-        met.run(&ladder_windows(&mut rng, 60, 12, ladder, 0), &mut rng);
-        met.run(&ladder_timetable(&mut rng, 60, 12, ladder), &mut rng);
+        ladders(&mut rng, 60, 12, ladder).iter().for_each(|sheet| met.run(sheet, &mut rng));
     }
     met.print("ladders");
-    assert!(met.rounds > 100 * met.searches, "{met:?}");
+    assert!(met.rounds > 100 * met.share.sheets && met.share.is_good(), "{met:?}");
 }
 
 #[test]
@@ -148,8 +149,8 @@ fn stored_sheets_agree() {
             met.run(&reading.sheet, &mut rng);
         }
     }
-    met.print("stored sheets");
-    assert!(met.searches > 80 && met.refused > 5, "{met:?}");
+    met.print("stored");
+    assert!(met.share.sheets > 120 && met.refused > 5 && met.share.is_good(), "{met:?}");
 }
 
 /// Lengths that are enough for the sheet, and those of which one or all are too short.
@@ -172,25 +173,26 @@ fn lengths_around(sheet: &Sheet, rng: &mut Rng) -> Vec<[usize; 3]> {
 #[test]
 fn refused_starts() {
     let mut rng = Rng::new(115);
-    let mut met = [0; NUMBER_COUNT];
+    let (mut met, mut share) = ([0; NUMBER_COUNT], Share::default());
     for turn in 0..15_000 {
         let mut sheet = small(&mut rng, FORMS[turn % 2], 9);
         let (state, _) = some_search(&sheet, &mut rng);
         (0..rng.index(4)).for_each(|_| spoil(&mut rng, &mut sheet));
+        if admit(&sheet).is_ok() {
+            share.meet_searched(&sheet);
+        }
         for lengths in lengths_around(&sheet, &mut rng) {
             met[Both::start(&sheet, lengths).err().map_or(0, |refusal| refusal.number)] += 1;
             check_round(&sheet, &state, &mut SearchAreas::of_lengths(lengths));
         }
     }
-    println!(
-        "watching, refused starts: {} starts compared, {} refused",
-        met.iter().sum::<usize>(),
-        met[1..].iter().sum::<usize>()
-    );
-    let possible = [0, OUT_OF_RANGE, TOO_MANY, KIND_MISSING, OUT_OF_ORDER, PLACES_DIFFER, AREA_TOO_SHORT];
+    let (starts, refused) = (met.iter().sum::<usize>(), met[1..].iter().sum::<usize>());
+    println!("watching, refused starts: {starts} starts compared, {refused} refused; admitted {share}");
+    let possible = [0, OUT_OF_RANGE, TOO_MANY, KIND_MISSING, OUT_OF_ORDER, TOO_FEW_PLACES, AREA_TOO_SHORT];
     let others = (0..NUMBER_COUNT).filter(|number| !possible.contains(number));
     assert!(possible.iter().all(|&number| met[number] > 1_000), "{met:?}");
     assert!(others.map(|number| met[number]).sum::<usize>() == 0, "{met:?}");
+    assert!(share.is_good(), "{share:?}");
 }
 
 /// What is said of the state that a round call gives back.
@@ -251,12 +253,14 @@ fn some_search(sheet: &Sheet, rng: &mut Rng) -> (State, SearchAreas) {
 fn damaged_states() {
     let mut rng = Rng::new(116);
     let (mut other, mut calls, mut no_search, mut made) = (NO_STATE, 0, 0, 0);
+    let mut share = Share::default();
     for turn in 0..40_000 {
         let sheet = small(&mut rng, FORMS[turn % 2], if turn % 4 == 0 { 32 } else { 9 });
         let (n, q) = sheet.size();
         let (sound, mut areas) = some_search(&sheet, &mut rng);
         let mut state = damaged(&mut rng, &sound, &other, &sheet);
         let mut rounds = 0;
+        share.meet_searched(&sheet);
         loop {
             check_look(&state, &mut areas);
             let reply = check_round(&sheet, &state, &mut areas);
@@ -272,6 +276,7 @@ fn damaged_states() {
         }
         other = sound;
     }
-    println!("watching, damaged states: {calls} calls ({made} rounds made and gone on from, {no_search} states told as of no search)");
-    assert!(no_search > 10_000 && made > 2_000, "{no_search} {made}");
+    print!("watching, damaged states: {calls} calls on {share}; ");
+    println!("{made} rounds made and gone on from, {no_search} states told as of no search");
+    assert!(no_search > 10_000 && made > 2_000 && share.is_good(), "{no_search} {made} {share:?}");
 }

@@ -3,12 +3,12 @@ use mathlib.Core.Bool.{Bool}
 use Rattle.model.specs.Admission.{passed}
 use Rattle.model.specs.declared.Admission.{Admission}
 use Rattle.model.specs.declared.Admission.the-variants.{Granted}
-use Rattle.model.specs.declared.Refusal.the-variants.{OutOfRange, KindMissing, OutOfOrder, PlacesDiffer}
+use Rattle.model.specs.declared.Refusal.the-variants.{OutOfRange, KindMissing, OutOfOrder, TooFewPlaces}
 
 -- the first that fails decides
-abbrev pub firstRefusal : (complete inRange inOrder balanced : Bool) → Admission
-firstRefusal complete inRange inOrder balanced =
+abbrev pub firstRefusal : (complete inRange inOrder roomy : Bool) → Admission
+firstRefusal complete inRange inOrder roomy =
     passed complete KindMissing
     (passed inRange (OutOfRange 0)
     (passed inOrder (OutOfOrder 0)
-    (passed balanced PlacesDiffer Granted)))
+    (passed roomy TooFewPlaces Granted)))

@@ -11,8 +11,8 @@ ghost use Rattle.model.specs.Admission.{admission};
 ghost use Rattle.admission.specs.FirstRefusal.{firstRefusal};
 
 // The answer to a sheet that passes test 4: the first of the tests 5, 2, 6 and 7 that fails decides.
-fn first_refusal(complete: bool, in_range: bool, in_order: bool, balanced: bool) -> Admission
-    ensures { λ r. ⌜ r ≡ firstRefusal complete «in_range» «in_order» balanced ⌝ }
+fn first_refusal(complete: bool, in_range: bool, in_order: bool, roomy: bool) -> Admission
+    ensures { λ r. ⌜ r ≡ firstRefusal complete «in_range» «in_order» roomy ⌝ }
 {
     if !complete {
         return Admission::Refused(Refusal::KindMissing);
@@ -23,8 +23,8 @@ fn first_refusal(complete: bool, in_range: bool, in_order: bool, balanced: bool)
     if !in_order {
         return Admission::Refused(Refusal::OutOfOrder(0));
     }
-    if !balanced {
-        return Admission::Refused(Refusal::PlacesDiffer);
+    if !roomy {
+        return Admission::Refused(Refusal::TooFewPlaces);
     }
     Admission::Granted
 }
@@ -40,6 +40,6 @@ pub fn admit(sheet: Sheet) -> Admission
     let complete = tests::complete(sheet);
     let in_range = tests::in_range(sheet);
     let in_order = tests::in_order(sheet);
-    let balanced = tests::balanced(sheet);
-    first_refusal(complete, in_range, in_order, balanced)
+    let roomy = tests::roomy(sheet);
+    first_refusal(complete, in_range, in_order, roomy)
 }

@@ -6,14 +6,14 @@ use crate::columns::all_inside;
 use model::Form;
 use model::Sheet;
 use model::limits;
-use places::places_of;
+use places::are_enough;
 ghost use mathlib.Core.Path.{_≡_};
 ghost use Prim.Native.Nat.{_≤_};
 ghost use Rattle.numbers.specs.Counting.{every};
 ghost use Rattle.model.specs.Limits.{window-counts, train-counts};
 ghost use Rattle.model.specs.Sheet.{windows, timetable};
 ghost use Rattle.model.specs.Memory.{windowsOf, timetableOf, sheetOf};
-ghost use Rattle.model.specs.Admission.{Few, few, fewWindows, complete, someWindow, balanced};
+ghost use Rattle.model.specs.Admission.{Few, few, fewWindows, complete, someWindow, roomy};
 ghost use Rattle.model.specs.Admission.{orderInRange, pathsInRange, inRange, pathsInOrder, inOrder};
 
 // Test 4 of windows: a timetable has none.
@@ -158,10 +158,10 @@ pub fn in_order(sheet: Sheet) -> bool
     }
 }
 
-// Test 7: the trains have as many places as there are orders.
-pub fn balanced(sheet: Sheet) -> bool
+// Test 7: the trains have a place for each order.
+pub fn roomy(sheet: Sheet) -> bool
     requires { ⌜ Few (sheetOf sheet) ⌝ }
-    ensures { λ r. ⌜ r ≡ balanced (sheetOf sheet) ⌝ }
+    ensures { λ r. ⌜ r ≡ roomy (sheetOf sheet) ⌝ }
 {
-    places_of(&sheet.capacity, sheet.train_count) == sheet.order_count
+    are_enough(&sheet.capacity, sheet.train_count, sheet.order_count)
 }

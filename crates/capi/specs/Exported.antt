@@ -12,7 +12,8 @@ use Rattle.model.specs.declared.Refusal.{Refusal}
 use Rattle.model.specs.declared.Admission.{Admission}
 use Rattle.model.specs.declared.Admission.the-variants.{Granted, Refused}
 use Rattle.sheet.specs.Sheets.{windowReading, timetableReading}
-use Rattle.sheet.specs.ReadingCall.{tells-line}
+use Rattle.sheet.specs.Reading.{linesIn}
+use Rattle.sheet.specs.ReadingCall.{tells-line, FewPlaces}
 use Rattle.capi.specs.declared.Cause.{Cause}
 use Rattle.capi.specs.declared.WindowsRead.{WindowsRead}
 use Rattle.capi.specs.declared.TimetableRead.{TimetableRead}
@@ -48,5 +49,7 @@ pub record ExportedReading {R : Type 0} (text : List ℕ) (defined given : R) (c
   pub numbered : cause .number ≤ 7
   pub line : tells-line (cause .number) ≡ true → Inside (1 – length text) (cause .returned)
   pub no-line : tells-line (cause .number) ≡ false → cause .returned ≡ 0
+  -- document 02, No. 5: "refusal 7 is given only if the capacities add up to less than n"
+  pub seven : cause .number ≡ 7 → FewPlaces (linesIn text)
   -- "no sheet is given"
   pub no-sheet : 1 ≤ cause .number → (sheet .orders ≡ 0) × (sheet .trains ≡ 0)

@@ -6,7 +6,7 @@ use mathlib.Core.Bool.{true, false}
 use mathlib.Core.List.{List}
 use Prim.Native.Nat.{ℕ, _≤_, _<_}
 use lib.IntN.{ℤ, pos}
-use Rattle.model.specs.Sheet.{Sheet}
+use Rattle.model.specs.Sheet.{Sheet, places}
 use Rattle.model.specs.Schedule.{Schedule}
 use Rattle.model.specs.Lateness.{Pair, pairOf, pair-at}
 use Rattle.model.specs.Foreign.{RowsFit, trains-told}
@@ -49,6 +49,8 @@ pub record ExportedCheck (s : Sheet) (departure : List ℕ) (rows : List Row) (r
       → r .cause .number ≡ 13 ↔ (¬ Schedule s (trains-told (s .orders) rows) departure)
   -- and nothing else of it: 8, 9 and 11 never
   pub answered : Admitted s → ListRoom s found → (r .cause .number ≡ 0) ⊎ ((r .cause .number ≡ 12) ⊎ (r .cause .number ≡ 13))
+  -- document 02, No. 5: "refusal 7 is given only if the capacities add up to less than n"
+  pub seven : r .cause .number ≡ 7 → places (s .capacity) (s .trains) < s .orders
   -- "returns 0 and changes nothing lent"
   pub returns-zero : r .cause .returned ≡ 0
   pub as-found : 1 ≤ r .cause .number → left ≡ found

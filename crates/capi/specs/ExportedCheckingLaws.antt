@@ -57,6 +57,7 @@ module _ (s : Sheet) (departure : List ℕ) (rows : List Row) (left found : List
         twelve = rw cause (call .twelve);
         thirteen = rw cause (call .thirteen);
         answered = λ a room. rw cause (told-number x (call .answered a room));
+        seven = rw cause (call .seven);
         returns-zero = rw cause (call .returns-zero);
         as-found = rw cause (call .as-found);
       }

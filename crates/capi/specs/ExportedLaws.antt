@@ -8,7 +8,7 @@ use Rattle.model.specs.Refusal.{number, returned}
 use Rattle.model.specs.declared.Admission.{Admission}
 use Rattle.model.specs.declared.Admission.the-variants.{Granted, Refused}
 use Rattle.model.specs.declared.Refusal.{Refusal}
-use Rattle.model.specs.declared.Refusal.the-variants.{Malformed, OutOfRange, KindTooEarly, TooMany, KindMissing, OutOfOrder, PlacesDiffer}
+use Rattle.model.specs.declared.Refusal.the-variants.{Malformed, OutOfRange, KindTooEarly, TooMany, KindMissing, OutOfOrder, TooFewPlaces}
 use Rattle.model.specs.declared.Refusal.the-variants.{NoSchedule, RoundLimit, AreaTooShort, WishTooEarly, WrongRows, RuleBroken}
 use Rattle.fields.specs.declared.NamePlaces.{NamePlaces}
 use Rattle.sheet.specs.ReadingCall.{ReadingCall}
@@ -23,7 +23,7 @@ numbered (KindTooEarly line) = omega arith
 numbered (TooMany line) = omega arith
 numbered KindMissing = omega arith
 numbered (OutOfOrder line) = omega arith
-numbered PlacesDiffer = omega arith
+numbered TooFewPlaces = omega arith
 numbered NoSchedule = omega arith
 numbered RoundLimit = omega arith
 numbered AreaTooShort = omega arith
@@ -46,6 +46,7 @@ exported-reading text d x Granted s c defined given call told e =
       numbered = omega arith;
       line = λ u. absurd (let z : _≡_ {A = ℕ} 0 1 = cc in omega arith);
       no-line = λ u. refl;
+      seven = λ u. absurd (omega arith);
       no-sheet = λ u. absurd (omega arith);
     })
 exported-reading text d x (Refused r) s c defined given call told e =
@@ -57,5 +58,6 @@ exported-reading text d x (Refused r) s c defined given call told e =
       numbered = t .numbered .1;
       line = t .line;
       no-line = t .no-line;
+      seven = t .seven;
       no-sheet = λ u. call .no-sheet r refl;
     })

@@ -3,11 +3,12 @@
 use mathlib.Core.Path.{_≡_}
 use mathlib.Core.Logic.{_↔_}
 use mathlib.Core.List.{List}
-use Prim.Native.Nat.{ℕ, _≤_}
+use Prim.Native.Nat.{ℕ, _≤_, _<_}
 use lib.IntN.{ℤ, pos}
-use Rattle.model.specs.Sheet.{Sheet}
+use Rattle.model.specs.Sheet.{Sheet, places}
 use Rattle.model.specs.Schedule.{Schedule}
 use Rattle.model.specs.Booking.{Booked}
+use Rattle.model.specs.ShortTrains.{EmptyTrains}
 use Rattle.model.specs.Lateness.{Pair}
 use Rattle.model.specs.Admission.{Admitted}
 use Rattle.model.specs.declared.ListReply.{ListReply}
@@ -39,6 +40,8 @@ pub record ExportedListing (s : Sheet) (r : Listing) (left found : List ℤ) : T
   pub front : r .cause .number ≡ 0 → Front s (pairs-in (r .pairs) left)
   -- and of a sheet that passes 4, 5, 2, 6, 7 and 10
   pub eight : Admitted s → ListRoom s found → r .cause .number ≡ 8 ↔ ((train departure : List ℕ) → ¬ Schedule s train departure)
+  -- document 02, No. 5: "refusal 7 is given only if the capacities add up to less than n"
+  pub seven : r .cause .number ≡ 7 → places (s .capacity) (s .trains) < s .orders
   -- "always with 0 returned and every lent area as found"
   pub returns-zero : r .cause .returned ≡ 0
   pub as-found : 1 ≤ r .cause .number → left ≡ found
@@ -61,12 +64,16 @@ pub record ExportedChoice (s : Sheet) (wish : ℕ) (r : Choice) (left found : Pl
   pub schedule : r .cause .number ≡ 0 → EntryPlan s (record { pair = pair-given r; plan = plan-in s left })
   -- document 02, No. 2, "The window of each departure"
   pub booked : r .cause .number ≡ 0 → Booked s (plan-in s left .departure) (plan-in s left .window)
+  -- document 02, No. 5: "an empty train waits only for its gap and window"
+  pub empty-trains : r .cause .number ≡ 0 → EmptyTrains s (plan-in s left .train) (plan-in s left .departure)
   -- "the last listed pair not later than it", "and none that arrives in time has a smaller worst lateness"
   pub listed : r .cause .number ≡ 0 → ChosenListed s wish (pair-given r)
   pub best : r .cause .number ≡ 0 → Best s wish (pair-given r)
   -- of a sheet that passes 4, 5, 2, 6, 7 and 10
   pub eight : Admitted s → PlanRoom s found → r .cause .number ≡ 8 ↔ ((train departure : List ℕ) → ¬ Schedule s train departure)
   pub eleven : Admitted s → PlanRoom s found → r .cause .number ≡ 11 ↔ TooEarly s wish
+  -- document 02, No. 5: "refusal 7 is given only if the capacities add up to less than n"
+  pub seven : r .cause .number ≡ 7 → places (s .capacity) (s .trains) < s .orders
   -- "always with 0 returned and every lent area as found"
   pub returns-zero : r .cause .returned ≡ 0
   pub as-found : 1 ≤ r .cause .number → left ≡ found

@@ -45,6 +45,7 @@ module _ (s : Sheet) (left found : List ℤ) where
         call = subst (λ (y : ListReply). ListingCall s y left found) replied call;
         front = λ u. rw e (accepted-list x call (rw cause at u));
         eight = rw cause (call .eight);
+        seven = rw cause (call .seven);
         returns-zero = rw cause (call .returns-zero);
         as-found = rw cause (call .as-found);
       }
@@ -64,10 +65,12 @@ module _ (s : Sheet) (wish : ℕ) (left found : PlanAreas) where
         call = subst (λ (y : ChoiceReply). ChoosingCall s wish y left found) replied call;
         schedule = λ u. rw e (call .schedule (pair-given (choiceOf x)) (gives x (rw cause at u)));
         booked = λ u. call .booked (pair-given (choiceOf x)) (gives x (rw cause at u));
+        empty-trains = λ u. call .empty-trains (pair-given (choiceOf x)) (gives x (rw cause at u));
         listed = λ u. rw e (call .listed (pair-given (choiceOf x)) (gives x (rw cause at u)));
         best = λ u. rw e (call .best (pair-given (choiceOf x)) (gives x (rw cause at u)));
         eight = rw cause (call .eight);
         eleven = rw cause (call .eleven);
+        seven = rw cause (call .seven);
         returns-zero = rw cause (call .returns-zero);
         as-found = rw cause (call .as-found);
       }

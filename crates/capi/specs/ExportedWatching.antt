@@ -4,9 +4,9 @@
 use mathlib.Core.Path.{_≡_}
 use mathlib.Core.Logic.{_⊎_}
 use mathlib.Core.Bool.{true, false}
-use Prim.Native.Nat.{_*_, _≤_}
+use Prim.Native.Nat.{_*_, _≤_, _<_}
 use lib.ListN.{length}
-use Rattle.model.specs.Sheet.{Sheet}
+use Rattle.model.specs.Sheet.{Sheet, places}
 use Rattle.model.specs.Limits.{numbers-a-pair}
 use Rattle.model.specs.declared.RoundReply.{RoundReply}
 use Rattle.model.specs.declared.RoundReply.the-variants.{GoesOn, Ended, Refused}
@@ -36,6 +36,8 @@ pub record ExportedStart (s : Sheet) (lent : SearchAreas) (r : Start) : Type 0 w
   pub no-eight : ¬ (r .cause .number ≡ 8)
   pub no-nine : ¬ (r .cause .number ≡ 9)
   pub returns-zero : r .cause .returned ≡ 0
+  -- document 02, No. 5: "refusal 7 is given only if the capacities add up to less than n"
+  pub seven : r .cause .number ≡ 7 → places (s .capacity) (s .trains) < s .orders
 
 -- ---- a round call
 

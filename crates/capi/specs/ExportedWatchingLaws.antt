@@ -44,6 +44,7 @@ exported-start s lent x r call e =
       no-eight = rw cause (call .no-eight);
       no-nine = rw cause (call .no-nine);
       returns-zero = rw cause (call .returns-zero);
+      seven = rw cause (call .seven);
     }
 
 -- ---- a round call

@@ -7,7 +7,7 @@ use mathlib.Core.List.{List}
 use Prim.Native.Nat.{ℕ, _≤_, _<_}
 use lib.IntN.{ℤ}
 use lib.ListN.{length}
-use Rattle.model.specs.Sheet.{Sheet}
+use Rattle.model.specs.Sheet.{Sheet, places}
 use Rattle.model.specs.Schedule.{Schedule}
 use Rattle.model.specs.Lateness.{Pair, pairOf, pair-at}
 use Rattle.model.specs.Foreign.{RowsFit, trains-told}
@@ -60,6 +60,8 @@ pub record CheckingCall (s : Sheet) (departure : List ℕ) (rows : List Row) (r 
       → numberOf (of-check r) ≡ 13 ↔ (¬ Schedule s (trains-told (s .orders) rows) departure)
   -- of such a sheet nothing else is told: 8, 9 and 11 never
   pub answered : Admitted s → ListRoom s found → SaysYes r ⊎ ((numberOf (of-check r) ≡ 12) ⊎ (numberOf (of-check r) ≡ 13))
+  -- document 02, No. 5: "refusal 7 is given only if the capacities add up to less than n"
+  pub seven : numberOf (of-check r) ≡ 7 → places (s .capacity) (s .trains) < s .orders
   -- "A number added later returns 0 and changes nothing lent", as do the others
   pub returns-zero : returnedOf (of-check r) ≡ 0
   pub as-found : 1 ≤ numberOf (of-check r) → left ≡ found

@@ -22,12 +22,12 @@ use Rattle.rounds.specs.Answers.{Answer, refused, given}
 use Rattle.rounds.specs.Areas.{ListRoom, list-room, pair-numbers, list-left}
 use Rattle.rounds.specs.AreaLaws.{decides-list-room}
 use Rattle.rounds.specs.Checking.{Verdict, among, check, check-to, check-reply, check-left}
-use Rattle.rounds.specs.CheckingLaws.{Judged, wrong-rows, rule-broken, yes, judged, check-returns, check-as-found}
+use Rattle.rounds.specs.CheckingLaws.{Judged, wrong-rows, rule-broken, yes, judged, check-refuses, check-as-found}
 use Rattle.rounds.specs.Told.{CheckTold}
 use Rattle.front.specs.Front.{Front, listed-is-front, SaidYes, says-yes, says-yes-to, listed-unbeaten}
 use Rattle.planner.specs.InAreas.{pairs-in}
 use Rattle.planner.specs.InAreasLaws.{pairs-read}
-use Rattle.planner.specs.CallLaws.{passed, passes, answer-granted, accepted}
+use Rattle.room.specs.CallLaws.{passed, passes, answer-granted, accepted}
 use Rattle.checker.specs.Checking.{SaysYes, IsSchedule, CheckingCall}
 
 -- what is answered to a sheet that passes the tests
@@ -170,7 +170,8 @@ module _ (s : Sheet) (departure : List ℕ) (rows : List Row) (r : CheckReply) (
             (thirteen-told s departure rows f (check s departure rows) (judged s departure rows a));
         answered = λ a room. rw (told .replied, check-of-rows s departure rows found a room)
             (told-so s departure rows (check s departure rows) (judged s departure rows a));
-        returns-zero = rw (told .replied) (check-returns s departure rows found);
+        seven = rw (told .replied) (check-refuses s departure rows found .seven);
+        returns-zero = rw (told .replied) (check-refuses s departure rows found .returns-zero);
         as-found = λ l. told .areas-left
             ∙ check-as-found (check-to s departure rows found) found (subst (λ (x : CheckReply). 1 ≤ numberOf (of-check x)) (told .replied) l);
       }

@@ -31,7 +31,7 @@ use Rattle.rounds.specs.AreaLaws.{pair-numbers-length}
 use Rattle.rounds.specs.Checking.{same-pair, among, beside, judge, check, check-to, check-reply, check-left}
 use Rattle.rounds.specs.Told.{ListTold, CheckTold}
 use Rattle.planner.specs.InAreasLaws.{numbers-read}
-use Rattle.planner.specs.CallLaws.{answer-granted, told-first, told-then}
+use Rattle.room.specs.CallLaws.{answer-granted, told-first, told-then}
 use Rattle.foreign.specs.Gathered.{gathered, column-fits}
 use Rattle.foreign.specs.GatheredLaws.{fits-rows, fits-told}
 use Rattle.foreign.specs.declared.Given.{Given}

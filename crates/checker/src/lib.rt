@@ -14,7 +14,6 @@ use model::Sheet;
 use model::TimetableSheet;
 use model::WindowSheet;
 use planner::listing::list;
-use planner::tests;
 ghost use Rattle.model.specs.Memory.{sheetOf, windowSheet, timetableSheet};
 ghost use Rattle.checker.specs.Checking.{CheckingCall, CheckedOf};
 
@@ -22,7 +21,7 @@ ghost use Rattle.checker.specs.Checking.{CheckingCall, CheckedOf};
 pub fn check(sheet: Sheet, departures: &[u32], given: Given, pairs: &mut [i64]) -> CheckReply
     ensures { λ r. ⌜ CheckedOf given (λ rows. CheckingCall (sheetOf sheet) (now (departures .entry)) rows r (now (pairs .exit)) (now (pairs .entry))) ⌝ }
 {
-    let tested = tests::for_listing(sheet, pairs.len());
+    let tested = room::for_listing(sheet, pairs.len());
     if let Admission::Refused(refusal) = tested {
         return CheckReply::Refused(refusal);
     }

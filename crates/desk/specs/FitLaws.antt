@@ -116,4 +116,4 @@ module _ (text : List ℕ) (bytes : List ℕ) where
       let form = form-of text in
       let x = reading form text in
       admitted-fits (x .admission) (x .names) (sheetOf (x .sheet)) (names-lie form text) (read-admitted form text)
-      (λ q u. omega (arith, returned-bound (length text) q (text-refusal form text q u))) p
+      (λ q u. omega (arith, returned-bound text q (text-refusal form text q u))) p

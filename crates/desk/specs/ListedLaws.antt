@@ -15,7 +15,7 @@ use Rattle.rounds.specs.Areas.{PlanAreas, PlanRoom, list-room, list-to, choose-
 use Rattle.rounds.specs.ChoosingLaws.{last-recorded-chosen}
 use Rattle.planner.specs.InAreas.{pairs-in}
 use Rattle.planner.specs.InAreasLaws.{pairs-read}
-use Rattle.planner.specs.CallLaws.{passed, accepted}
+use Rattle.room.specs.CallLaws.{passed, accepted}
 use Rattle.planner.specs.ChoosingLaws.{choice-of-rounds}
 use Rattle.planner.specs.Listing.{ListingCall}
 use Rattle.desk.specs.AnswerBytes.{last-recorded}

@@ -9,19 +9,23 @@ use Prim.Native.Nat.{ℕ, _+_, _*_, _≤_, _<_}
 use lib.IntN.{ℤ}
 use lib.ListN.{length}
 use lib.Signed.{_<ℤ_}
-use Rattle.numbers.specs.Counting.{at, nth}
-use Rattle.model.specs.Sheet.{Sheet}
+use Rattle.numbers.specs.Counting.{at, nth, count}
+use Rattle.numbers.specs.DecidesLaws.{test-means}
+use Rattle.model.specs.Sheet.{Sheet, places}
 use Rattle.model.specs.Schedule.{Schedule}
 use Rattle.model.specs.Arrival.{arrival}
 use Rattle.model.specs.Lateness.{Pair, pairOf, AtLeastAsGood, pair-at}
 use Rattle.model.specs.Foreign.{RowsFit, trains-told, RowsTell, rows-of}
+use Rattle.model.specs.ShortTrains.{FullSchedule}
 use Rattle.model.specs.Admission.{Admitted}
 use Rattle.model.specs.declared.Row.{Row}
 use Rattle.model.specs.declared.Refusal.the-variants.{NoSchedule, RoundLimit, WishTooEarly, WrongRows, RuleBroken}
 use Rattle.model.specs.declared.RoundReply.the-variants.{GoesOn}
+use Rattle.rounds.specs.Loading.{free, take-orders}
+use Rattle.rounds.specs.LoadingLaws.{decides-free, takes-all}
 use Rattle.rounds.specs.Timing.{stopped, timed}
 use Rattle.rounds.specs.Recording.{Entry, listed, entry-at, last-entry, recorded-arrival}
-use Rattle.rounds.specs.EntryPlan.{EntryPlan, EntryBooked}
+use Rattle.rounds.specs.EntryPlan.{EntryPlan, EntryBooked, EntryEmptyTrains}
 use Rattle.rounds.specs.ChosenPair.{LastInTime, Best, TooEarly, Unbeaten}
 use Rattle.rounds.specs.Rounds.{going, ended, recorded-in, start, loading, times, first-timing, rounds, recorded-after, search}
 use Rattle.rounds.specs.RoundsBound.{rounds-bound}
@@ -31,11 +35,13 @@ use Rattle.rounds.specs.Checking.{Verdict, check}
 use Rattle.rounds.specs.ByRound.{SearchAreas, Calls, then-round, then-look, round-calls, Then, search-by, seen, end-of, said, areas-by, Final}
 use Rattle.rounds.specs.SumLaws.{within-limit}
 use Rattle.rounds.specs.PairListLaws.{apart}
-use Rattle.rounds.specs.InvariantLaws.{entry-plans, entry-booked, reached, earliest-plan}
+use Rattle.rounds.specs.ShortTrainLaws.{as-exactly}
+use Rattle.rounds.specs.OneRoundLaws.{every-order-loaded}
+use Rattle.rounds.specs.InvariantLaws.{entry-plans, entry-booked, entry-empty-trains, reached, earliest-plan}
 use Rattle.rounds.specs.ArrivalLaws as arrivals
 use Rattle.rounds.specs.AnswerLaws.{listed-so, eight-means, eight-given, eight-stops, nine-never, ends-within}
 use Rattle.rounds.specs.ChosenLaws.{choice-best, chosen-so, eleven-chosen, eleven-before-first, nine-never-chosen}
-use Rattle.rounds.specs.ChoosingLaws.{booked-chosen, eight-chosen, eight-chosen-stops, listed-chosen, last-recorded-chosen}
+use Rattle.rounds.specs.ChoosingLaws.{booked-chosen, empty-chosen, eight-chosen, eight-chosen-stops, listed-chosen, last-recorded-chosen}
 use Rattle.rounds.specs.CheckingLaws.{yes-so, yes-unbeaten, yes-given, twelve-given, thirteen-given, own-plan, own-rows}
 use Rattle.rounds.specs.ByRoundLaws.{seen-is, look-leaves, no-more-rounds, ends-here, end-is, said-at-end, pairs-at-end, plan-at-end}
 use Rattle.rounds.specs.ByRoundLaws as by-round
@@ -224,6 +230,28 @@ end-unbroken s a calls e =
       plan = λ found. ap (λ x. areas-by s x found .plan) there ∙ plan-at-end s a found;
     }
 
+-- ---- document 02, No. 5: trains may run short. The front above is that of schedules whose train i "carries at most k_i orders"
+
+-- "Sheets with equal sums keep their printed plans": their schedules are those with exactly k_i orders
+pub equal-sums : (s : Sheet) → places (s .capacity) (s .trains) ≡ s .orders → (train departure : List ℕ)
+    → Schedule s train departure ↔ FullSchedule s train departure
+equal-sums s e = as-exactly s e
+
+-- "In loading, a train with fewer permitted orders than places takes them all": train i's turn, where it carries none yet
+pub takes-them-all : (s : Sheet) (latest train : List ℕ) (i : ℕ) → 1 ≤ i → length train ≡ s .orders → ((j : ℕ) → j < s .orders → ¬ (at train j ≡ i))
+    → count (free latest train i) (s .orders) ≤ s .capacity i
+    → (j : ℕ) → j < s .orders → free latest train i j ≡ true → at (take-orders (s .orders) (s .release) latest i (s .capacity i) train) j ≡ i
+takes-them-all s latest train i p len none few j l e =
+    takes-all (s .orders) (s .release) latest i p (s .capacity i) train len none few j l (test-means (decides-free latest train i j) e)
+
+-- "an empty train waits only for its gap and window": in each recorded plan, after any number of rounds, and in a chosen one
+pub recorded-empty-trains : (s : Sheet) → Admitted s → (k m : ℕ) → m < length (recorded-after s k)
+    → EntryEmptyTrains s (entry-at (recorded-after s k) m)
+recorded-empty-trains s a k = entry-empty-trains s a k
+
+pub chosen-empty-trains : (s : Sheet) → Admitted s → (wish : ℕ) {e : Entry} → choose s wish ≡ given e → EntryEmptyTrains s e
+chosen-empty-trains s a wish u = empty-chosen s a wish u
+
 -- ---- how many rounds
 
 -- document 02, No. 6: "no search makes more rounds than that", one that gives 8 included
@@ -245,9 +273,13 @@ never-cut-off s a = nine-never s a
 pub never-cut-off-chosen : (s : Sheet) → Admitted s → (wish : ℕ) → ¬ (choose s wish ≡ refused RoundLimit)
 never-cut-off-chosen s a wish = nine-never-chosen s a wish
 
--- ---- a search that goes on after k rounds: document 02, No. 11 and No. 13 rest on this
+-- ---- a search that goes on after k rounds. It loads every order, where trains run short too; document 02, No. 11 and No. 13 rest on the others
 
 module _ (s : Sheet) (a : Admitted s) (k c : ℕ) (latest : List ℕ) (y : ℤ) (recorded : List Entry) (now : rounds s k (start s) ≡ going c latest y recorded) where
+  -- the next round loads every order, on a train from 1 to q
+  pub every-loaded : (j : ℕ) → j < s .orders → (1 ≤ at (loading s latest) j) × (at (loading s latest) j ≤ s .trains)
+  every-loaded = let g = reached s a k c latest y recorded now in every-order-loaded s latest (g .upto) (g .fits)
+
   -- every schedule whose worst lateness is below the limit y keeps to the latest trains
   pub keeps : (train departure : List ℕ) → Schedule s train departure → pairOf s train departure .worst <ℤ y
       → (j : ℕ) → j < s .orders → at train j ≤ at latest j

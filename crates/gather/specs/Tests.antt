@@ -1,7 +1,7 @@
 -- DOCUMENT 01, "THE SHEET", THE TABLE OF REFUSALS: the tests of a line after those that gave s, and those after the last line.
 use mathlib.Core.Bool.{Bool, true, false, not, _&&_, _||_}
 use Prim.Native.Nat.{ℕ, _≤_}
-use lib.Dec.{leb, ltb, eqb}
+use lib.Dec.{leb, ltb}
 use Rattle.numbers.specs.Counting.{nth}
 use Rattle.model.specs.Sheet.{places}
 use Rattle.model.specs.Limits.{inside, gap-range, window-counts, train-counts}
@@ -60,7 +60,7 @@ unfoldable pub lineFault : Form → ℕ → SheetLines → Line → Admission
 unfolding firstFault kindTests
 lineFault form line s l = passed (ofForm form l) (Malformed line) (firstFault line (kindTests s l))
 
--- ---- after the last line: 5, "a kind is missing", and 7, "K_q differs from n"
+-- ---- after the last line: 5, "a kind is missing", and 7, in the words of document 02, No. 5, "the capacities add up to less than n"
 
 -- the kinds that only the window form has
 abbrev pub windowsComplete : Form → SheetLines → Bool
@@ -71,4 +71,4 @@ complete form s = windowsComplete form s && leb 1 (s .trains .count) && leb 1 (s
 
 unfoldable pub endFault : Form → SheetLines → Admission
 unfolding lastFault places
-endFault form s = lastFault (complete form s) (eqb (places (nth (s .trains .capacity)) (s .trains .count)) (s .orders .count))
+endFault form s = lastFault (complete form s) (leb (s .orders .count) (places (nth (s .trains .capacity)) (s .trains .count)))

@@ -3,7 +3,7 @@ use crate::SheetLines;
 use crate::line_tests::by_windows;
 use model::Admission;
 use model::Form;
-use places::places_of;
+use places::are_enough;
 use rows::faults::last_fault;
 ghost use mathlib.Core.Path.{_≡_};
 ghost use Prim.Native.Nat.{_≤_};
@@ -44,7 +44,7 @@ pub fn end_fault(form: Form, lines: SheetLines) -> Admission
     ensures { λ r. ⌜ r ≡ endFault form lines ⌝ }
 {
     let trains = lines.trains;
-    let places = places_of(&trains.capacity, trains.count);
     let orders = lines.orders;
-    last_fault(is_complete(form, lines), places == orders.count)
+    let roomy = are_enough(&trains.capacity, trains.count, orders.count);
+    last_fault(is_complete(form, lines), roomy)
 }

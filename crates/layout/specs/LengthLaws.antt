@@ -12,7 +12,7 @@ use borrow.Author.Tests.{ltb-true, ltb-false}
 use Rattle.model.specs.Limits.{numbers-a-pair, numbers-a-train}
 use Rattle.model.specs.Refusal.{number, returned}
 use Rattle.model.specs.declared.Refusal.{Refusal}
-use Rattle.model.specs.declared.Refusal.the-variants.{Malformed, OutOfRange, KindTooEarly, TooMany, KindMissing, OutOfOrder, PlacesDiffer, NoSchedule}
+use Rattle.model.specs.declared.Refusal.the-variants.{Malformed, OutOfRange, KindTooEarly, TooMany, KindMissing, OutOfOrder, TooFewPlaces, NoSchedule}
 use Rattle.model.specs.declared.Refusal.the-variants.{RoundLimit, AreaTooShort, WishTooEarly, WrongRows, RuleBroken}
 use Rattle.fields.specs.NamePlaces.{NamesLie}
 use Rattle.fields.specs.NameLaws.{short-name, name-within}
@@ -80,7 +80,7 @@ number-small (KindTooEarly line) = omega arith
 number-small (TooMany line) = omega arith
 number-small KindMissing = omega arith
 number-small (OutOfOrder line) = omega arith
-number-small PlacesDiffer = omega arith
+number-small TooFewPlaces = omega arith
 number-small NoSchedule = omega arith
 number-small RoundLimit = omega arith
 number-small AreaTooShort = omega arith

@@ -4,18 +4,18 @@ use mathlib.Core.Bool.{Bool, true, false, _&&_}
 use Prim.Native.Nat.{ℕ, suc, _-_, _≤_, _<_}
 use native.Mathlib.Omega.{arith}
 use Rattle.numbers.specs.Counting.{each}
-use Rattle.numbers.specs.DecidesLaws.{Decides, decides-le, decides-lt, decides-eq, decides-and, decides-iff, decides-every, decides-each}
+use Rattle.numbers.specs.DecidesLaws.{Decides, decides-le, decides-lt, decides-and, decides-iff, decides-every, decides-each, test-fails}
 use Rattle.model.specs.Sheet.{Windows, Timetable, Paths, windows, timetable, Sheet, places}
 use Rattle.model.specs.Limits.{Range, Inside, inside, gap-range, window-range, capacity-range, running-range}
 use Rattle.model.specs.Limits.{departure-range, arrival-range, release-range, due-range, weight-range}
 use Rattle.model.specs.Refusal.{number, returned}
 use Rattle.model.specs.Admission.{Few, FewWindows, few, fewWindows, Complete, SomeWindow, complete, someWindow}
 use Rattle.model.specs.Admission.{OrderInRange, orderInRange, WindowInRange, TimesInRange, PathsInRange, pathsInRange, InRange, inRange}
-use Rattle.model.specs.Admission.{PathsInOrder, pathsInOrder, inOrder, Balanced, balanced, Admitted, passed, admission}
+use Rattle.model.specs.Admission.{PathsInOrder, pathsInOrder, inOrder, Roomy, roomy, Admitted, passed, admission}
 use Rattle.model.specs.declared.Admission.{Admission}
 use Rattle.model.specs.declared.Admission.the-variants.{Granted, Refused}
 use Rattle.model.specs.declared.Refusal.{Refusal}
-use Rattle.model.specs.declared.Refusal.the-variants.{OutOfRange, TooMany, KindMissing, OutOfOrder, PlacesDiffer}
+use Rattle.model.specs.declared.Refusal.the-variants.{OutOfRange, TooMany, KindMissing, OutOfOrder, TooFewPlaces}
 
 decides-unit : Decides (Unit {0}) true
 decides-unit = record { sound = λ t. tt; complete = λ u. tt }
@@ -104,9 +104,9 @@ decides-in-order s = paths-in-order (s .paths) (s .trains)
 
 -- ---- 7
 
-pub decides-balanced : (s : Sheet) → Decides (Balanced s) (balanced s)
-unfolding balanced
-decides-balanced s = decides-eq (places (s .capacity) (s .trains)) (s .orders)
+pub decides-roomy : (s : Sheet) → Decides (Roomy s) (roomy s)
+unfolding roomy
+decides-roomy s = decides-le (s .orders) (places (s .capacity) (s .trains))
 
 -- ---- all of them
 
@@ -148,8 +148,8 @@ admitted-means s = (into, back)
         let (complete₅, e₂) = passed-in (decides-complete s) KindMissing _ e₅ in
         let (range₂, e₆) = passed-in (decides-in-range s) (OutOfRange 0) _ e₂ in
         let (order₆, e₇) = passed-in (decides-in-order s) (OutOfOrder 0) _ e₆ in
-        let (balanced₇, e) = passed-in (decides-balanced s) PlacesDiffer _ e₇ in
-        record { few = few₄; complete = complete₅; in-range = range₂; in-order = order₆; balanced = balanced₇ }
+        let (roomy₇, e) = passed-in (decides-roomy s) TooFewPlaces _ e₇ in
+        record { few = few₄; complete = complete₅; in-range = range₂; in-order = order₆; roomy = roomy₇ }
 
     back : Admitted s → admission s ≡ Granted
     back a =
@@ -158,30 +158,37 @@ admitted-means s = (into, back)
           passed-on (decides-complete s) KindMissing _ (a .complete),
           passed-on (decides-in-range s) (OutOfRange 0) _ (a .in-range),
           passed-on (decides-in-order s) (OutOfOrder 0) _ (a .in-order),
-          passed-on (decides-balanced s) PlacesDiffer _ (a .balanced),
+          passed-on (decides-roomy s) TooFewPlaces _ (a .roomy),
         )
 
 -- ---- what it refuses with
 
 module _ (P : Refusal → Type 0) (r : Refusal) where
-  passed-refuses : (b : Bool) (r′ : Refusal) (next : Admission) → P r′ → (next ≡ Refused r → P r) → passed b r′ next ≡ Refused r → P r
+  passed-refuses : (b : Bool) (r′ : Refusal) (next : Admission) → (b ≡ false → P r′) → (next ≡ Refused r → P r) → passed b r′ next ≡ Refused r → P r
   passed-refuses true r′ next z h e = h e
-  passed-refuses false r′ next z h e = let same : r′ ≡ r = cc in subst P same z
+  passed-refuses false r′ next z h e = let same : r′ ≡ r = cc in subst P same (z refl)
 
-  -- what holds of each test's refusal holds of the one that is given
-  admission-refuses : (s : Sheet) → P (TooMany 0) → P KindMissing → P (OutOfRange 0) → P (OutOfOrder 0) → P PlacesDiffer → admission s ≡ Refused r → P r
+  -- what holds of each test's refusal holds of the one that is given; of 7 where that test fails
+  admission-refuses : (s : Sheet) → P (TooMany 0) → P KindMissing → P (OutOfRange 0) → P (OutOfOrder 0) → (roomy s ≡ false → P TooFewPlaces)
+      → admission s ≡ Refused r → P r
   unfolding admission
   admission-refuses s p₄ p₅ p₂ p₆ p₇ =
-      passed-refuses (few s) (TooMany 0) _ p₄
-      (passed-refuses (complete s) KindMissing _ p₅
-      (passed-refuses (inRange s) (OutOfRange 0) _ p₂
-      (passed-refuses (inOrder s) (OutOfOrder 0) _ p₆
-      (passed-refuses (balanced s) PlacesDiffer _ p₇ (λ e. absurd (refusal-is-not r (sym e)))))))
+      passed-refuses (few s) (TooMany 0) _ (λ e. p₄)
+      (passed-refuses (complete s) KindMissing _ (λ e. p₅)
+      (passed-refuses (inRange s) (OutOfRange 0) _ (λ e. p₂)
+      (passed-refuses (inOrder s) (OutOfOrder 0) _ (λ e. p₆)
+      (passed-refuses (roomy s) TooFewPlaces _ p₇ (λ e. absurd (refusal-is-not r (sym e)))))))
 
 -- "4, 5, 2, 6, 7": none with a greater number
 pub admission-numbers : (r : Refusal) (s : Sheet) → admission s ≡ Refused r → number r ≤ 7
-admission-numbers r s = admission-refuses (λ x. number x ≤ 7) r s (omega arith) (omega arith) (omega arith) (omega arith) (omega arith)
+admission-numbers r s = admission-refuses (λ x. number x ≤ 7) r s (omega arith) (omega arith) (omega arith) (omega arith) (λ e. omega arith)
 
 -- "always with 0 returned"
 pub admission-returns : (r : Refusal) (s : Sheet) → admission s ≡ Refused r → returned r ≡ 0
-admission-returns r s = admission-refuses (λ x. returned x ≡ 0) r s refl refl refl refl refl
+admission-returns r s = admission-refuses (λ x. returned x ≡ 0) r s refl refl refl refl (λ e. refl)
+
+-- document 02, No. 5: "refusal 7 is given only if the capacities add up to less than n"
+pub seven-means : (r : Refusal) (s : Sheet) → admission s ≡ Refused r → number r ≡ 7 → places (s .capacity) (s .trains) < s .orders
+seven-means r s =
+    admission-refuses (λ x. number x ≡ 7 → places (s .capacity) (s .trains) < s .orders) r s (λ e. absurd (omega arith)) (λ e. absurd (omega arith))
+    (λ e. absurd (omega arith)) (λ e. absurd (omega arith)) (λ e u. let no : ¬ (Roomy s) = test-fails (decides-roomy s) e in omega arith)

@@ -10,7 +10,7 @@ use Rattle.numbers.specs.DecidesLaws.{Decides, decides-le, decides-eq, decides-
 use Rattle.model.specs.Sheet.{Windows, Paths, windows, timetable, Sheet}
 use Rattle.model.specs.Limits.{_–_, Inside}
 use Rattle.model.specs.Schedule.{Open, Departures, Schedule}
-use Rattle.model.specs.ScheduleTest.{in-a-window, allowed, full, released, is-schedule}
+use Rattle.model.specs.ScheduleTest.{in-a-window, allowed, room, released, is-schedule}
 use Rattle.model.specs.AdmissionLaws.{decides-inside}
 
 -- ---- the windows
@@ -42,11 +42,11 @@ decides-allowed (timetable t) q S =
 
 -- ---- the whole
 
-decides-full : (s : Sheet) (train : List ℕ)
-    → Decides ((i : ℕ) → 1 ≤ i → i ≤ s .trains → count (λ j. eqb (at train j) i) (s .orders) ≡ s .capacity i) (full s train)
-decides-full s train =
-    decides-each {P = λ i. count (λ j. eqb (at train j) i) (s .orders) ≡ s .capacity i}
-    (λ i. decides-eq (count (λ j. eqb (at train j) i) (s .orders)) (s .capacity i)) (s .trains)
+decides-room : (s : Sheet) (train : List ℕ)
+    → Decides ((i : ℕ) → 1 ≤ i → i ≤ s .trains → count (λ j. eqb (at train j) i) (s .orders) ≤ s .capacity i) (room s train)
+decides-room s train =
+    decides-each {P = λ i. count (λ j. eqb (at train j) i) (s .orders) ≤ s .capacity i}
+    (λ i. decides-le (count (λ j. eqb (at train j) i) (s .orders)) (s .capacity i)) (s .trains)
 
 decides-released : (s : Sheet) (train departure : List ℕ)
     → Decides ((j : ℕ) → j < s .orders → s .release j ≤ nth departure (at train j)) (released s train departure)
@@ -62,11 +62,11 @@ decides-schedule s train departure =
       placed = x .0 .0 .0 .0 .0;
       on-a-train = x .0 .0 .0 .0 .1;
       departs = x .0 .0 .0 .1;
-      full = x .0 .0 .1;
+      room = x .0 .0 .1;
       released = x .0 .1;
       departures = x .1;
     })
-    (λ h. (((((h .placed, h .on-a-train), h .departs), h .full), h .released), h .departures))
+    (λ h. (((((h .placed, h .on-a-train), h .departs), h .room), h .released), h .departures))
     (decides-and
     (decides-and
     (decides-and
@@ -74,6 +74,6 @@ decides-schedule s train departure =
     (decides-and (decides-eq (length train) (s .orders))
     (decides-every {P = λ j. Inside (1 – s .trains) (at train j)} (λ j. decides-inside (1 – s .trains) (at train j)) (s .orders)))
     (decides-eq (length departure) (s .trains)))
-    (decides-full s train))
+    (decides-room s train))
     (decides-released s train departure))
     (decides-allowed (s .paths) (s .trains) (nth departure)))

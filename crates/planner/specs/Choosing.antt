@@ -2,10 +2,11 @@
 use mathlib.Core.Path.{_≡_}
 use mathlib.Core.Logic.{_↔_}
 use mathlib.Core.List.{List}
-use Prim.Native.Nat.{ℕ, _≤_}
-use Rattle.model.specs.Sheet.{Sheet}
+use Prim.Native.Nat.{ℕ, _≤_, _<_}
+use Rattle.model.specs.Sheet.{Sheet, places}
 use Rattle.model.specs.Schedule.{Schedule}
 use Rattle.model.specs.Booking.{Booked}
+use Rattle.model.specs.ShortTrains.{EmptyTrains}
 use Rattle.model.specs.Lateness.{Pair}
 use Rattle.model.specs.Refusal.{of-choice, numberOf, returnedOf}
 use Rattle.model.specs.Admission.{Admitted}
@@ -29,6 +30,8 @@ pub record ChoosingCall (s : Sheet) (wish : ℕ) (r : ChoiceReply) (left found :
   pub schedule : (p : Pair) → Gives r p → EntryPlan s (record { pair = p; plan = plan-in s left })
   -- document 02, No. 2, "The window of each departure": train i departs within the window of its number, and within no other; of a timetable it is 0
   pub booked : (p : Pair) → Gives r p → Booked s (plan-in s left .departure) (plan-in s left .window)
+  -- document 02, No. 5: "an empty train waits only for its gap and window"
+  pub empty-trains : (p : Pair) → Gives r p → EmptyTrains s (plan-in s left .train) (plan-in s left .departure)
   -- "the last listed pair not later than it"
   pub listed : (p : Pair) → Gives r p → ChosenListed s wish p
   -- "and none that arrives in time has a smaller worst lateness"
@@ -37,6 +40,8 @@ pub record ChoosingCall (s : Sheet) (wish : ℕ) (r : ChoiceReply) (left found :
   pub eight : Admitted s → PlanRoom s found → numberOf (of-choice r) ≡ 8 ↔ ((train departure : List ℕ) → ¬ Schedule s train departure)
   -- "11, the wished arrival is before the first listed one": there is a schedule, and none arrives by the wish
   pub eleven : Admitted s → PlanRoom s found → numberOf (of-choice r) ≡ 11 ↔ TooEarly s wish
+  -- document 02, No. 5: "refusal 7 is given only if the capacities add up to less than n"
+  pub seven : numberOf (of-choice r) ≡ 7 → places (s .capacity) (s .trains) < s .orders
   -- "A number added later returns 0 and changes nothing lent", as do the others
   pub returns-zero : returnedOf (of-choice r) ≡ 0
   pub as-found : 1 ≤ numberOf (of-choice r) → left ≡ found

@@ -11,6 +11,7 @@ use Rattle.numbers.specs.DecidesLaws.{test-true}
 use Rattle.model.specs.Sheet.{Sheet}
 use Rattle.model.specs.Schedule.{Schedule}
 use Rattle.model.specs.Booking.{Booked}
+use Rattle.model.specs.ShortTrains.{EmptyTrains}
 use Rattle.model.specs.Lateness.{Pair}
 use Rattle.model.specs.Refusal.{of-choice, numberOf}
 use Rattle.model.specs.Admission.{Admitted}
@@ -25,13 +26,13 @@ use Rattle.rounds.specs.EntryPlan.{EntryPlan}
 use Rattle.rounds.specs.ChosenPair.{TooEarly}
 use Rattle.rounds.specs.Answers.{Answer, refused, given, choose}
 use Rattle.rounds.specs.Areas.{PlanAreas, PlanRoom, plan-room, tested, choose-to, choice-reply, plan-left}
-use Rattle.rounds.specs.AreaLaws.{decides-plan-room, choice-returns, plan-as-found}
+use Rattle.rounds.specs.AreaLaws.{decides-plan-room, choice-refuses, plan-as-found}
 use Rattle.rounds.specs.ChoiceLaws.{Chose, no-schedule, too-early, choice, chose}
 use Rattle.rounds.specs.Told.{ChoiceTold}
-use Rattle.front.specs.Front.{chosen-plan, chosen-booked, chosen-listed, chosen-best, no-schedule-chosen, wish-too-early}
+use Rattle.front.specs.Front.{chosen-plan, chosen-booked, chosen-empty-trains, chosen-listed, chosen-best, no-schedule-chosen, wish-too-early}
 use Rattle.planner.specs.InAreas.{plan-in}
 use Rattle.planner.specs.InAreasLaws.{plan-read}
-use Rattle.planner.specs.CallLaws.{passed, passes, answer-granted, accepted, told-first, told-then}
+use Rattle.room.specs.CallLaws.{passed, passes, answer-granted, accepted, told-first, told-then}
 use Rattle.planner.specs.Choosing.{Gives, ChoosingCall}
 
 -- what the rounds answer to a sheet that passes the tests
@@ -128,10 +129,9 @@ module _ (s : Sheet) (wish : ℕ) (r : ChoiceReply) (left found : PlanAreas) (to
       subst (λ (x : Plan). EntryPlan s (record { pair = p; plan = x })) (sym (c .plan))
       (subst (λ (y : Pair). EntryPlan s (record { pair = y; plan = c .entry .plan })) (c .pair) own)
 
-  booked : (p : Pair) → Gives r p → Booked s (plan-in s left .departure) (plan-in s left .window)
-  booked p g =
-      let c = accepts p g in
-      subst (λ (x : Plan). Booked s (x .departure) (x .window)) (sym (c .plan)) (chosen-booked s (c .admitted) wish (c .is))
+  -- what holds of the plan of each choice holds of the plan in the areas
+  plan-so : (P : Plan → Type 0) → (Admitted s → (e : Entry) → choose s wish ≡ given e → P (e .plan)) → (p : Pair) → Gives r p → P (plan-in s left)
+  plan-so P h p g = let c = accepts p g in subst P (sym (c .plan)) (h (c .admitted) (c .entry) (c .is))
 
   -- THE WHOLE CONTRACT FOLLOWS FROM THE EQUALITY
   pub choosing-call : ChoosingCall s wish r left found
@@ -139,12 +139,14 @@ module _ (s : Sheet) (wish : ℕ) (r : ChoiceReply) (left found : PlanAreas) (to
       record {
         equal = told;
         schedule = schedule;
-        booked = booked;
+        booked = plan-so (λ x. Booked s (x .departure) (x .window)) (λ a e u. chosen-booked s a wish u);
+        empty-trains = plan-so (λ x. EmptyTrains s (x .train) (x .departure)) (λ a e u. chosen-empty-trains s a wish u);
         listed = λ p g. let c = accepts p g in rw (← (c .pair)) (chosen-listed s (c .admitted) wish (c .is));
         best = λ p g. let c = accepts p g in rw (← (c .pair)) (chosen-best s (c .admitted) wish (c .is));
         eight = λ a room. rw (told .replied, choice-of-rounds s wish found a room) (eight-chosen s a wish);
         eleven = λ a room. rw (told .replied, choice-of-rounds s wish found a room) (eleven-chosen s a wish);
-        returns-zero = rw (told .replied) (choice-returns s wish found);
+        seven = rw (told .replied) (choice-refuses s wish found .seven);
+        returns-zero = rw (told .replied) (choice-refuses s wish found .returns-zero);
         as-found = λ l. told .areas-left
             ∙ plan-as-found s (choose-to s wish found) found (subst (λ (x : ChoiceReply). 1 ≤ numberOf (of-choice x)) (told .replied) l);
       }

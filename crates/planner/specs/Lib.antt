@@ -5,7 +5,6 @@ pub mod ListingLaws
 pub mod Choosing
 pub mod ChoosingLaws
 pub mod Outcome
-pub mod CallLaws
 pub mod SoFar
 pub mod SoFarLaws
 pub mod RunningLaws

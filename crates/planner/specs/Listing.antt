@@ -2,9 +2,9 @@
 use mathlib.Core.Path.{_≡_}
 use mathlib.Core.Logic.{_↔_}
 use mathlib.Core.List.{List}
-use Prim.Native.Nat.{ℕ, _≤_}
+use Prim.Native.Nat.{ℕ, _≤_, _<_}
 use lib.IntN.{ℤ}
-use Rattle.model.specs.Sheet.{Sheet}
+use Rattle.model.specs.Sheet.{Sheet, places}
 use Rattle.model.specs.Schedule.{Schedule}
 use Rattle.model.specs.Refusal.{of-listing, numberOf, returnedOf}
 use Rattle.model.specs.Admission.{Admitted}
@@ -22,6 +22,8 @@ pub record ListingCall (s : Sheet) (r : ListReply) (left found : List ℤ) : Typ
   pub front : (pairs rounds : ℕ) → r ≡ Listed pairs rounds → Front s (pairs-in pairs left)
   -- demand 3: refused with 8 exactly when the model has no schedule, of a sheet that passes 4, 5, 2, 6, 7 and 10
   pub eight : Admitted s → ListRoom s found → numberOf (of-listing r) ≡ 8 ↔ ((train departure : List ℕ) → ¬ Schedule s train departure)
+  -- document 02, No. 5: "refusal 7 is given only if the capacities add up to less than n"
+  pub seven : numberOf (of-listing r) ≡ 7 → places (s .capacity) (s .trains) < s .orders
   -- "4, 5, 2, 6, 7, 10, then 8 or 9, always with 0 returned"
   pub returns-zero : returnedOf (of-listing r) ≡ 0
   -- "and every lent area as found"

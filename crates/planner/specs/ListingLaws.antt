@@ -19,13 +19,13 @@ use Rattle.model.specs.declared.ListReply.{ListReply}
 use Rattle.model.specs.declared.ListReply.the-variants.{Listed, Refused}
 use Rattle.rounds.specs.Answers.{Answer, refused, given, Listing, list}
 use Rattle.rounds.specs.Areas.{ListRoom, list-room, tested, list-to, list-reply, pair-numbers, list-left}
-use Rattle.rounds.specs.AreaLaws.{decides-list-room, list-returns, list-as-found}
+use Rattle.rounds.specs.AreaLaws.{decides-list-room, list-refuses, list-as-found}
 use Rattle.rounds.specs.AnswerLaws.{Answered, no-schedule, listing, answered}
 use Rattle.rounds.specs.Told.{ListTold}
 use Rattle.front.specs.Front.{Front, listed-is-front}
 use Rattle.planner.specs.InAreas.{pairs-in}
 use Rattle.planner.specs.InAreasLaws.{pairs-read}
-use Rattle.planner.specs.CallLaws.{passed, passes, answer-granted, accepted, told-first, told-then}
+use Rattle.room.specs.CallLaws.{passed, passes, answer-granted, accepted, told-first, told-then}
 use Rattle.planner.specs.Listing.{ListingCall}
 
 -- "then 8 or 9": what the rounds answer to a sheet that passes the tests
@@ -88,6 +88,7 @@ module _ (s : Sheet) (r : ListReply) (left found : List ℤ) (told : ListTold (l
         equal = told;
         front = front;
         eight = λ a room. rw (told .replied, list-of-rounds s found a room) (eight-listed s a);
-        returns-zero = rw (told .replied) (list-returns s found);
+        seven = rw (told .replied) (list-refuses s found .seven);
+        returns-zero = rw (told .replied) (list-refuses s found .returns-zero);
         as-found = λ l. told .areas-left ∙ list-as-found (list-to s found) found (subst (λ (x : ListReply). 1 ≤ numberOf (of-listing x)) (told .replied) l);
       }

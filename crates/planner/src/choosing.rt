@@ -1,5 +1,4 @@
 // Choosing: the plan of the last listed pair that is not later than a wished arrival.
-use crate::tests;
 use model::Admission;
 use model::ChoiceReply;
 use model::Refusal;
@@ -23,7 +22,7 @@ pub fn choose(sheet: Sheet, wish: u32, train_of_order: &mut [u8], times: &mut [u
     ensures { λ r. ⌜ ChoosingCall (sheetOf sheet) wish r (areas (now («train_of_order» .exit)) (now (times .exit)))
         (areas (now («train_of_order» .entry)) (now (times .entry))) ⌝ }
 {
-    let tested = tests::for_choosing(sheet, train_of_order.len(), times.len());
+    let tested = room::for_choosing(sheet, train_of_order.len(), times.len());
     if let Admission::Refused(refusal) = tested {
         return ChoiceReply::Refused(refusal);
     }

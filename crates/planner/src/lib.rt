@@ -2,4 +2,3 @@
 // and each call is lent just the areas that it fills.
 pub mod choosing;
 pub mod listing;
-pub mod tests;

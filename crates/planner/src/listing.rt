@@ -1,5 +1,4 @@
 // Listing: the pairs, and how many rounds were made.
-use crate::tests;
 use model::Admission;
 use model::ListReply;
 use model::Refusal;
@@ -19,7 +18,7 @@ ghost use Rattle.planner.specs.Listing.{ListingCall};
 pub fn list(sheet: Sheet, pairs: &mut [i64]) -> ListReply
     ensures { λ r. ⌜ ListingCall (sheetOf sheet) r (now (pairs .exit)) (now (pairs .entry)) ⌝ }
 {
-    let tested = tests::for_listing(sheet, pairs.len());
+    let tested = room::for_listing(sheet, pairs.len());
     if let Admission::Refused(refusal) = tested {
         return ListReply::Refused(refusal);
     }

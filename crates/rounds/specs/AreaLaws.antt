@@ -1,22 +1,22 @@
 -- Laws of the lent areas: the test of their lengths, how many numbers are written, and what a refused call returns and leaves. Assumes nothing.
-use mathlib.Core.Path.{_≡_, refl, ap, _∙_}
+use mathlib.Core.Path.{_≡_, refl, ap}
 use mathlib.Core.Bool.{Bool, true, false, cond}
 use mathlib.Core.List.{List, [], _∷_, _++_}
-use Prim.Native.Nat.{ℕ, zero, suc, _*_, _≤_}
+use Prim.Native.Nat.{ℕ, zero, suc, _*_, _≤_, _<_}
 use native.Mathlib.Omega.{arith}
 use lib.IntN.{ℤ, pos}
 use lib.ListN.{length, length-append}
 use Rattle.numbers.specs.DecidesLaws.{Decides, decides-le, decides-and, decides-iff}
-use Rattle.model.specs.Sheet.{Sheet}
+use Rattle.model.specs.Sheet.{Sheet, places}
 use Rattle.model.specs.Limits.{numbers-a-pair, numbers-a-train}
 use Rattle.model.specs.Lateness.{Pair}
-use Rattle.model.specs.Refusal.{returned, numberOf, returnedOf, of-listing, of-choice}
+use Rattle.model.specs.Refusal.{number, returned, numberOf, returnedOf, of-listing, of-choice}
 use Rattle.model.specs.Admission.{admission}
-use Rattle.model.specs.AdmissionLaws.{admission-returns}
+use Rattle.model.specs.AdmissionLaws.{admission-returns, seven-means}
 use Rattle.model.specs.declared.Admission.{Admission}
 use Rattle.model.specs.declared.Admission.the-variants as tests
 use Rattle.model.specs.declared.Refusal.{Refusal}
-use Rattle.model.specs.declared.Refusal.the-variants.{AreaTooShort}
+use Rattle.model.specs.declared.Refusal.the-variants.{NoSchedule, RoundLimit, AreaTooShort, WishTooEarly}
 use Rattle.rounds.specs.Recording.{Plan, Entry}
 use Rattle.rounds.specs.Rounds.{Search, going, ended, search}
 use Rattle.rounds.specs.Answers.{Answer, refused, given, Listing, list-of, list, in-time, chosen, choice-of, choose}
@@ -75,17 +75,31 @@ tested-so P s room granted short h = go (admission s) refl
     go tests.Granted u = long room
     go (tests.Refused r) u = h r u
 
-pub tested-zero : (s : Sheet) (room : Bool) → returnedOf (tested s room) ≡ 0
-tested-zero s room = tested-so (λ x. returnedOf x ≡ 0) s room refl refl (λ r u. admission-returns r s u)
+-- of whatever a call on the sheet s refuses: 0 is returned, and 7 is given "only if the capacities add up to less than n"
+pub record Refuses (s : Sheet) (x : Admission) : Type 0 where
+  pub returns-zero : returnedOf x ≡ 0
+  pub seven : numberOf x ≡ 7 → places (s .capacity) (s .trains) < s .orders
 
--- where the answer of the rounds returns 0 the call's answer does
-pub tested-returns : {A : Type 0} (s : Sheet) (room : Bool) (x : Answer A) → returnedOf (of-answer x) ≡ 0
-    → returnedOf (of-answer (after-tests (tested s room) x)) ≡ 0
+-- so of no refusal, and of one behind the tests of the sheet
+pub refuses-nothing : (s : Sheet) → Refuses s tests.Granted
+refuses-nothing s = record { returns-zero = refl; seven = λ e. absurd (omega arith) }
+
+pub refuses-later : (s : Sheet) (r : Refusal) → returned r ≡ 0 → 8 ≤ number r → Refuses s (tests.Refused r)
+refuses-later s r z later = record { returns-zero = z; seven = λ e. absurd (omega arith) }
+
+pub tests-refuse : (s : Sheet) (room : Bool) → Refuses s (tested s room)
+tests-refuse s room =
+    tested-so (Refuses s) s room (refuses-nothing s) (refuses-later s AreaTooShort refl (omega arith))
+    (λ r u. record { returns-zero = admission-returns r s u; seven = seven-means r s u })
+
+-- where it holds of the answer of the rounds it holds of the call's answer
+pub answer-refuses : {A : Type 0} (s : Sheet) (room : Bool) (x : Answer A) → Refuses s (of-answer x)
+    → Refuses s (of-answer (after-tests (tested s room) x))
 unfolding after-tests
-tested-returns s room x z = go (tested s room) (tested-zero s room)
+answer-refuses s room x h = go (tested s room) (tests-refuse s room)
   where
-    go : (t : Admission) → returnedOf t ≡ 0 → returnedOf (of-answer (after-tests t x)) ≡ 0
-    go tests.Granted u = z
+    go : (t : Admission) → Refuses s t → Refuses s (of-answer (after-tests t x))
+    go tests.Granted u = h
     go (tests.Refused r) u = u
 
 -- what each call returns is whether its answer refuses
@@ -99,34 +113,34 @@ unfolding choice-reply
 choice-told (refused r) = refl
 choice-told (given e) = refl
 
--- the rounds return 0
-pub list-zero : (s : Sheet) → returnedOf (of-answer (list s)) ≡ 0
+-- the rounds refuse with 8 or 9
+pub rounds-refuse : (s : Sheet) → Refuses s (of-answer (list s))
 unfolding list list-of
-list-zero s = go (search s)
+rounds-refuse s = go (search s)
   where
-    go : (x : Search) → returnedOf (of-answer (list-of x)) ≡ 0
-    go (going c latest y recorded) = refl
-    go (ended c []) = refl
-    go (ended c (e ∷ es)) = refl
+    go : (x : Search) → Refuses s (of-answer (list-of x))
+    go (going c latest y recorded) = refuses-later s RoundLimit refl (omega arith)
+    go (ended c []) = refuses-later s NoSchedule refl (omega arith)
+    go (ended c (e ∷ es)) = refuses-nothing s
 
-pub list-returns : (s : Sheet) (lent : List ℤ) → returnedOf (of-listing (list-reply (list-to s lent))) ≡ 0
+pub list-refuses : (s : Sheet) (lent : List ℤ) → Refuses s (of-listing (list-reply (list-to s lent)))
 unfolding list-to
-list-returns s lent = ap returnedOf (listing-told (list-to s lent)) ∙ tested-returns s (list-room s (length lent)) (list s) (list-zero s)
+list-refuses s lent = rw (listing-told (list-to s lent)) (answer-refuses s (list-room s (length lent)) (list s) (rounds-refuse s))
 
-pub choice-returns : (s : Sheet) (wish : ℕ) (lent : PlanAreas) → returnedOf (of-choice (choice-reply (choose-to s wish lent))) ≡ 0
+pub choice-refuses : (s : Sheet) (wish : ℕ) (lent : PlanAreas) → Refuses s (of-choice (choice-reply (choose-to s wish lent)))
 unfolding choose-to choose choice-of chosen
-choice-returns s wish lent =
-    ap returnedOf (choice-told (choose-to s wish lent))
-    ∙ tested-returns s (plan-room s (length (lent .trains)) (length (lent .times))) (choose s wish) (go (search s))
+choice-refuses s wish lent =
+    rw (choice-told (choose-to s wish lent))
+    (answer-refuses s (plan-room s (length (lent .trains)) (length (lent .times))) (choose s wish) (go (search s)))
   where
-    timely : (b : Bool) (e : Entry) (r : Refusal) → returned r ≡ 0 → returnedOf (of-answer (cond b (given e) (refused r))) ≡ 0
-    timely true e r z = refl
-    timely false e r z = z
+    timely : (b : Bool) (e : Entry) → Refuses s (of-answer (cond b (given e) (refused WishTooEarly)))
+    timely true e = refuses-nothing s
+    timely false e = refuses-later s WishTooEarly refl (omega arith)
 
-    go : (x : Search) → returnedOf (of-answer (choice-of wish x)) ≡ 0
-    go (going c latest y recorded) = refl
-    go (ended c []) = refl
-    go (ended c (e ∷ es)) = timely (in-time wish e) _ _ refl
+    go : (x : Search) → Refuses s (of-answer (choice-of wish x))
+    go (going c latest y recorded) = refuses-later s RoundLimit refl (omega arith)
+    go (ended c []) = refuses-later s NoSchedule refl (omega arith)
+    go (ended c (e ∷ es)) = timely (in-time wish e) _
 
 pub list-as-found : (x : Answer Listing) (found : List ℤ) → 1 ≤ numberOf (of-listing (list-reply x)) → list-left x found ≡ found
 unfolding list-reply list-left

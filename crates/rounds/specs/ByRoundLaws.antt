@@ -9,7 +9,7 @@ use lib.IntN.{ℤ}
 use lib.ListN.{length}
 use Rattle.numbers.specs.DecidesLaws.{Decides, decides-lt, decides-and, decides-iff, test-true, cond-yes}
 use Rattle.model.specs.Sheet.{Sheet}
-use Rattle.model.specs.Refusal.{numberOf, returnedOf}
+use Rattle.model.specs.Refusal.{numberOf}
 use Rattle.model.specs.Admission.{Admitted}
 use Rattle.model.specs.AdmissionLaws.{admission-numbers}
 use Rattle.model.specs.declared.Admission.{Admission}
@@ -19,7 +19,7 @@ use Rattle.rounds.specs.Rounds.{Search, going, ended, recorded-in, start
 use Rattle.rounds.specs.RoundsLaws.{one-round-more, one-end}
 use Rattle.rounds.specs.Answers.{Answer, refused, given, Listing, list-of, list, last-listed, chosen, choice-of, choose}
 use Rattle.rounds.specs.Areas.{list-left, plan-left}
-use Rattle.rounds.specs.AreaLaws.{decides-list-room, decides-plan-room, tested-so, tested-zero}
+use Rattle.rounds.specs.AreaLaws.{decides-list-room, decides-plan-room, tested-so, Refuses, tests-refuse}
 use Rattle.rounds.specs.ByRound.{SearchAreas, SearchRoom, search-room, start-to, Calls, started, then-round, then-look, round-calls}
 use Rattle.rounds.specs.ByRound.{goes-on, move, search-by, seen, end-of, said, last-plan, areas-by}
 use Rattle.rounds.specs.SumLaws.{within-limit}
@@ -36,19 +36,19 @@ decides-search-room s lent =
     decides-iff (λ x. record { list = x .0; plan = x .1 }) (λ x. (x .list, x .plan))
     (decides-and (decides-list-room s (lent .pairs)) (decides-plan-room s (lent .plan)))
 
--- neither 8 nor 9 is among "the refusals up to 10" of a start, and 0 is returned
-pub record StartRefuses (x : Admission) : Type 0 where
+-- neither 8 nor 9 is among "the refusals up to 10" of a start, which are as in any call
+pub record StartRefuses (s : Sheet) (x : Admission) : Type 0 where
   pub no-eight : ¬ (numberOf x ≡ 8)
   pub no-nine : ¬ (numberOf x ≡ 9)
-  pub returns-zero : returnedOf x ≡ 0
+  pub as-any : Refuses s x
 
-pub start-refuses : (s : Sheet) (lent : SearchAreas) → StartRefuses (start-to s lent)
+pub start-refuses : (s : Sheet) (lent : SearchAreas) → StartRefuses s (start-to s lent)
 unfolding start-to
 start-refuses s lent =
     record {
       no-eight = tested-so (λ x. ¬ (numberOf x ≡ 8)) s _ (λ e. omega arith) (λ e. omega arith) (λ r u e. omega (arith, admission-numbers r s u));
       no-nine = tested-so (λ x. ¬ (numberOf x ≡ 9)) s _ (λ e. omega arith) (λ e. omega arith) (λ r u e. omega (arith, admission-numbers r s u));
-      returns-zero = tested-zero s _;
+      as-any = tests-refuse s _;
     }
 
 -- ---- what a round call says

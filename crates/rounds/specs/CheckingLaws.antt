@@ -16,16 +16,17 @@ use Rattle.model.specs.ScheduleTestLaws.{decides-schedule}
 use Rattle.model.specs.Lateness.{Pair, pairOf, pair-at, AtLeastAsGood}
 use Rattle.model.specs.Foreign.{RowsFit, rows-fit, trains-told, RowsTell, rows-of}
 use Rattle.model.specs.ForeignLaws.{decides-rows-fit, told-by-rows, rows-of-tell}
-use Rattle.model.specs.Refusal.{returned, numberOf, returnedOf, of-check}
+use Rattle.model.specs.Refusal.{numberOf, of-check}
 use Rattle.model.specs.Admission.{Admitted}
 use Rattle.model.specs.declared.Row.{Row}
+use Rattle.model.specs.declared.Admission.the-variants.{Refused}
 use Rattle.model.specs.declared.Refusal.{Refusal}
 use Rattle.model.specs.declared.Refusal.the-variants.{WrongRows, RuleBroken}
 use Rattle.rounds.specs.Recording.{Entry}
 use Rattle.rounds.specs.ChosenPair.{Unbeaten}
 use Rattle.rounds.specs.Answers.{Answer, refused, given, Listing, list, choose}
 use Rattle.rounds.specs.Areas.{list-room}
-use Rattle.rounds.specs.AreaLaws.{of-answer, tested-returns, list-zero}
+use Rattle.rounds.specs.AreaLaws.{of-answer, Refuses, refuses-nothing, refuses-later, answer-refuses, rounds-refuse}
 use Rattle.rounds.specs.PairListLaws.{apart}
 use Rattle.rounds.specs.EndLaws.{ListsFront}
 use Rattle.rounds.specs.AnswerLaws.{Answered, no-schedule, listing, answered, listed-so}
@@ -228,22 +229,24 @@ unfolding check-reply
 check-told (refused r) = refl
 check-told (given v) = refl
 
-pub check-returns : (s : Sheet) (departure : List ℕ) (rows : List Row) (lent : List ℤ)
-    → returnedOf (of-check (check-reply (check-to s departure rows lent))) ≡ 0
+pub check-refuses : (s : Sheet) (departure : List ℕ) (rows : List Row) (lent : List ℤ)
+    → Refuses s (of-check (check-reply (check-to s departure rows lent)))
 unfolding check-to check judge beside
-check-returns s departure rows lent =
-    ap returnedOf (check-told (check-to s departure rows lent))
-    ∙ tested-returns s (list-room s (length lent)) (check s departure rows)
+check-refuses s departure rows lent =
+    rw (check-told (check-to s departure rows lent))
+    (answer-refuses s (list-room s (length lent)) (check s departure rows)
     (unless (rows-fit s departure rows) _ WrongRows
-    (unless (is-schedule s (told s departure rows) departure) _ RuleBroken (passed-on (list s) (list-zero s)) refl) refl)
+    (unless (is-schedule s (told s departure rows) departure) _ RuleBroken (passed-on (list s) (rounds-refuse s))
+    (refuses-later s RuleBroken refl (omega arith))) (refuses-later s WrongRows refl (omega arith))))
   where
-    unless : (b : Bool) (x : Answer Verdict) (r : Refusal) → returnedOf (of-answer x) ≡ 0 → returned r ≡ 0 → returnedOf (of-answer (cond b x (refused r))) ≡ 0
+    unless : (b : Bool) (x : Answer Verdict) (r : Refusal) → Refuses s (of-answer x) → Refuses s (Refused r)
+        → Refuses s (of-answer (cond b x (refused r)))
     unless true x r y z = y
     unless false x r y z = z
 
-    passed-on : (x : Answer Listing) → returnedOf (of-answer x) ≡ 0 → returnedOf (of-answer (beside (pairOf s (told s departure rows) departure) x)) ≡ 0
+    passed-on : (x : Answer Listing) → Refuses s (of-answer x) → Refuses s (of-answer (beside (pairOf s (told s departure rows) departure) x))
     passed-on (refused r) z = z
-    passed-on (given l) z = refl
+    passed-on (given l) z = refuses-nothing s
 
 pub check-as-found : (x : Answer Verdict) (found : List ℤ) → 1 ≤ numberOf (of-check (check-reply x)) → check-left x found ≡ found
 unfolding check-reply check-left

@@ -14,13 +14,13 @@ use Rattle.model.specs.declared.Refusal.the-variants.{NoSchedule, WishTooEarly}
 use Rattle.rounds.specs.Timing.{stopped}
 use Rattle.rounds.specs.Recording.{Entry, record-entry, listed, no-entry, last-entry, recorded-arrival}
 use Rattle.rounds.specs.RecordingLaws.{listed-length, listed-at}
-use Rattle.rounds.specs.EntryPlan.{EntryBooked}
+use Rattle.rounds.specs.EntryPlan.{EntryBooked, EntryEmptyTrains}
 use Rattle.rounds.specs.Rounds.{Search, ended, recorded-in, start, first-timing, rounds, recorded-after, search}
 use Rattle.rounds.specs.RoundsLaws.{search-at-end}
 use Rattle.rounds.specs.Answers.{Answer, refused, given, Listing, list-of, list, last-arrival-in, in-time, last-in-time, chosen, choice-of, choose}
 use Rattle.rounds.specs.ListLaws.{list-given, last-arrival-at}
 use Rattle.rounds.specs.InTimeLaws.{when-timely, when-late, chosen-at, last-of-all, late-second, late-passed}
-use Rattle.rounds.specs.InvariantLaws.{Over, at-end, entry-booked, search-over}
+use Rattle.rounds.specs.InvariantLaws.{Over, at-end, entry-booked, entry-empty-trains, search-over}
 use Rattle.rounds.specs.ArrivalLaws.{Next, no-more, one-more, next-recorded, arrivals-in-order}
 use Rattle.rounds.specs.PairListLaws.{Rising, in-order}
 use Rattle.rounds.specs.EndLaws.{Unschedulable, listing-of, Found, nothing, entries, found}
@@ -86,12 +86,19 @@ module _ (s : Sheet) (a : Admitted s) (wish : ℕ) where
       go : (x : Search) → Over s x → choice-of wish x ≡ chosen wish (recorded-in x)
       go x (at-end h) = refl
 
-  -- A CHOSEN PLAN'S WINDOWS ARE THOSE OF ITS DEPARTURES, since it is a recorded one
-  pub booked-chosen : {e : Entry} → choose s wish ≡ given e → EntryBooked s e
+  -- WHAT HOLDS OF EACH RECORDED ENTRY HOLDS OF A CHOSEN ONE
+  of-recorded : (P : Entry → Type 0) → ((k : ℕ) → All no-entry P (recorded-after s k)) → {e : Entry} → choose s wish ≡ given e → P e
   unfolding search
-  booked-chosen {e} u =
-      let h = chosen-at wish (recorded-in (search s)) e (sym of-search ∙ u) in
-      subst (EntryBooked s) (h .is) (entry-booked s a (s .orders * s .trains) (h .place) (h .among))
+  of-recorded P each {e} u =
+      let h = chosen-at wish (recorded-in (search s)) e (sym of-search ∙ u) in subst P (h .is) (each (s .orders * s .trains) (h .place) (h .among))
+
+  -- its windows are those of its departures
+  pub booked-chosen : {e : Entry} → choose s wish ≡ given e → EntryBooked s e
+  booked-chosen = of-recorded (EntryBooked s) (entry-booked s a)
+
+  -- and its empty trains wait only for gap and window
+  pub empty-chosen : {e : Entry} → choose s wish ≡ given e → EntryEmptyTrains s e
+  empty-chosen = of-recorded (EntryEmptyTrains s) (entry-empty-trains s a)
 
   -- ONCE THE PAIR RECORDED LAST IS LATER THAN THE WISH THE CHOICE IS SETTLED
   pub choice-settled : (k : ℕ) → k ≤ s .orders * s .trains → wish < recorded-arrival (recorded-after s k) → choose s wish ≡ chosen wish (recorded-after s k)

@@ -8,6 +8,7 @@ use Rattle.model.specs.Schedule.{Schedule}
 use Rattle.model.specs.Arrival.{arrival}
 use Rattle.model.specs.Lateness.{pairOf}
 use Rattle.model.specs.Booking.{Booked}
+use Rattle.model.specs.ShortTrains.{EmptyTrains}
 use Rattle.rounds.specs.Recording.{Entry}
 
 -- "record the pair (F_q, z) and this plan": the plan is a schedule, with the model's arrivals, and the pair is its own
@@ -21,3 +22,7 @@ pub record EntryPlan (s : Sheet) (e : Entry) : Type 0 where
 -- document 02, No. 2: the windows of the plan are those of its departures
 abbrev pub EntryBooked : Sheet → Entry → Type 0
 EntryBooked s e = Booked s (e .plan .departure) (e .plan .window)
+
+-- document 02, No. 5: the empty trains of the plan wait only for gap and window
+abbrev pub EntryEmptyTrains : Sheet → Entry → Type 0
+EntryEmptyTrains s e = EmptyTrains s (e .plan .train) (e .plan .departure)

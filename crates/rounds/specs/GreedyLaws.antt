@@ -1,5 +1,5 @@
 -- THE KEY LEMMA. Under a greedy loading each order is released no later than the departure of its train in any schedule that keeps to the same
--- latest trains; and every order is loaded. It holds also where trains may run short ("at most k_i" for "exactly k_i"). Assumes nothing.
+-- latest trains; and every order is loaded. It asks for no more than "at most k_i orders", so trains may run short. Assumes nothing.
 use mathlib.Core.Path.{_≡_}
 use mathlib.Core.Logic.{_⊎_, inl, inr}
 use mathlib.Core.Bool.{Bool, _&&_}

@@ -18,7 +18,7 @@ use Rattle.model.specs.Arrival.{arrival}
 use Rattle.model.specs.Admission.{Admitted}
 use Rattle.rounds.specs.Timing.{ready, Timed, timed}
 use Rattle.rounds.specs.Recording.{Entry, no-entry}
-use Rattle.rounds.specs.EntryPlan.{EntryPlan, EntryBooked}
+use Rattle.rounds.specs.EntryPlan.{EntryPlan, EntryBooked, EntryEmptyTrains}
 use Rattle.rounds.specs.Rounds.{Search, going, ended, above-everything, recorded-in, start, loading, times, round, rounds, recorded-after, search}
 use Rattle.rounds.specs.RoundsBound.{rounds-bound}
 use Rattle.rounds.specs.SumLaws.{sum-same, within-limit}
@@ -40,7 +40,14 @@ module _ (s : Sheet) (a : Admitted s) where
         upto = λ j l. omega (arith, all-last j l);
         fits = λ i l. fits i l (decided (decides-lt i (s .trains)));
         keeps = λ train departure h w j l. omega (arith, all-last j l, h .on-a-train j l .1);
-        on-record = record { front = nothing-yet refl; plans = λ k l. absurd (omega arith); booked = λ k l. absurd (omega arith); few = omega arith };
+        on-record =
+            record {
+              front = nothing-yet refl;
+              plans = λ k l. absurd (omega arith);
+              booked = λ k l. absurd (omega arith);
+              empty = λ k l. absurd (omega arith);
+              few = omega arith;
+            };
       }
     where
       latest : List ℕ
@@ -53,7 +60,7 @@ module _ (s : Sheet) (a : Admitted s) where
       fits i l (inl u) = omega (arith, count-none (λ j. decides-le (at latest j) i) (s .orders) (λ j k w. omega (arith, all-last j k)))
       fits i l (inr u) =
           let e : i ≡ s .trains = omega arith in
-          rw e (omega (arith, a .balanced, count-all (λ j. decides-le (at latest j) (s .trains)) (s .orders) (λ j k. omega (arith, all-last j k))))
+          rw e (omega (arith, a .roomy, count-all (λ j. decides-le (at latest j) (s .trains)) (s .orders) (λ j k. omega (arith, all-last j k))))
 
   start-is : Invariant s 0 (start s)
   unfolding start
@@ -87,6 +94,10 @@ module _ (s : Sheet) (a : Admitted s) where
   -- AND THE WINDOWS ARE THOSE OF ITS DEPARTURES
   pub entry-booked : (k : ℕ) → All no-entry (EntryBooked s) (recorded-after s k)
   entry-booked k = on-record-after k .2 .booked
+
+  -- AND THE EMPTY TRAINS WAIT ONLY FOR GAP AND WINDOW
+  pub entry-empty-trains : (k : ℕ) → All no-entry (EntryEmptyTrains s) (recorded-after s k)
+  entry-empty-trains k = on-record-after k .2 .empty
 
   -- ---- a search that goes on
 

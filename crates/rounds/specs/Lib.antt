@@ -27,6 +27,7 @@ pub mod TimingRuleLaws
 pub mod PairListLaws
 pub mod ScheduleLaws
 pub mod FrontSoFarLaws
+pub mod ShortTrainLaws
 pub mod OneRoundLaws
 pub mod InvariantLaws
 pub mod InTimeLaws
@@ -44,3 +45,5 @@ pub mod FinalLaws
 pub mod ByRoundCases
 pub mod ByRoundCaseLaws
 pub mod SizeLaws
+pub mod ShortCases
+pub mod ShortCaseLaws

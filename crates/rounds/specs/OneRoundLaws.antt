@@ -11,7 +11,7 @@ use lib.IntN.{ℤ}
 use lib.ListN.{length}
 use lib.Signed.{ltZ, _≤ℤ_, _<ℤ_, ≤ℤ-refl, <ℤ-≤ℤ-trans, clashℤ}
 use Rattle.numbers.specs.Counting.{at, nth, count, sum}
-use Rattle.numbers.specs.DecidesLaws.{Decides, decides-le, decides-ltℤ, decided, numbered}
+use Rattle.numbers.specs.DecidesLaws.{Decides, decides-le, decides-ltℤ, decided}
 use Rattle.numbers.specs.OneMoreLaws.{All}
 use Rattle.numbers.specs.SignedLaws.{≤ℤ-trans, <ℤ-weaken, ≮ℤ-≤ℤ, ≤ℤ-<ℤ-trans}
 use Rattle.model.specs.Sheet.{Sheet, places}
@@ -26,16 +26,17 @@ use Rattle.rounds.specs.Timing.{ready, Timed}
 use Rattle.rounds.specs.TimingLaws.{ready-above, ready-least, Covers}
 use Rattle.rounds.specs.Recording.{Plan, Entry, record-entry, no-entry}
 use Rattle.rounds.specs.RecordingLaws.{record-all, record-lengthens}
-use Rattle.rounds.specs.EntryPlan.{EntryPlan, EntryBooked}
+use Rattle.rounds.specs.EntryPlan.{EntryPlan, EntryBooked, EntryEmptyTrains}
 use Rattle.rounds.specs.Lowering.{lower, crowded}
 use Rattle.rounds.specs.LoweringLaws.{GreatestEarly, latest-below-is, lower-at, Crowded, decides-crowded, not-crowded}
 use Rattle.rounds.specs.Rounds.{Search, going, ended, loading, times, settle, grade, depart, round}
 use Rattle.rounds.specs.RoundsBound.{rounds-bound}
 use Rattle.rounds.specs.SumLaws.{sum-lt, sum-near}
-use Rattle.rounds.specs.GreedyLaws.{Greedy, uncrowded, filled, released-in-any, every-loaded}
+use Rattle.rounds.specs.GreedyLaws.{Greedy, uncrowded, released-in-any, every-loaded}
 use Rattle.rounds.specs.LoadLaws.{load-length, load-greedy}
 use Rattle.rounds.specs.TimingRuleLaws.{NoLater, none-covers, least-run}
 use Rattle.rounds.specs.ScheduleLaws.{worst-same, Run, rule, rides}
+use Rattle.rounds.specs.ShortTrainLaws.{leaves-at-once}
 use Rattle.rounds.specs.FrontSoFarLaws.{Recorded, recording}
 
 module _ (s : Sheet) where
@@ -43,11 +44,13 @@ module _ (s : Sheet) where
   abbrev pub Keeps : (latest train : List ℕ) → Type 0
   Keeps latest train = (j : ℕ) → j < s .orders → at train j ≤ at latest j
 
-  -- what is recorded where the limit is y: the front so far, each entry with its plan and that with its windows, and no more entries than rounds
+  -- what is recorded where the limit is y: the front so far, each entry with its plan, that with its windows and with empty trains that leave at once, and
+  -- no more entries than rounds
   pub record OnRecord (y : ℤ) (recorded : List Entry) (c : ℕ) : Type 0 where
     pub front : Recorded s y recorded
     pub plans : All no-entry (EntryPlan s) recorded
     pub booked : All no-entry (EntryBooked s) recorded
+    pub empty : All no-entry (EntryEmptyTrains s) recorded
     pub few : length recorded ≤ c
 
   -- the search goes on after k rounds
@@ -123,7 +126,7 @@ module _ (s : Sheet) (a : Admitted s) (k c : ℕ) (latest : List ℕ) (y : ℤ) 
   bounded-now = omega (arith, g .shrunk, sum-near s (a .complete .trains) (at latest) (g .upto) (g .fits))
 
   one-round-later : OnRecord s y recorded c → OnRecord s y recorded (suc c)
-  one-round-later r = record { front = r .front; plans = r .plans; booked = r .booked; few = omega (arith, r .few) }
+  one-round-later r = record { front = r .front; plans = r .plans; booked = r .booked; empty = r .empty; few = omega (arith, r .few) }
 
   -- "If there is none, stop."
   stops : ((S : ℕ → ℕ) → Departures (s .paths) q S → ¬ Covers q released S) → Ended s (suc c) recorded
@@ -157,7 +160,7 @@ module _ (s : Sheet) (a : Admitted s) (k c : ℕ) (latest : List ℕ) (y : ℤ) 
           placed = load-length n q (s .release) (s .capacity) latest;
           on-a-train = λ j l. (all-loaded j l, within j l);
           departs = size-S;
-          full = numbered (λ i. count (on train i) n ≡ s .capacity i) q (filled n (s .capacity) train (greedy .room) all-loaded q within (a .balanced));
+          room = λ i p l. greedy .room i p;
           released = λ j l. omega (arith, ready-above (s .release) train (at train j) n j l refl, cov (at train j) (all-loaded j l) (within j l));
           departures = ok;
         }
@@ -171,6 +174,14 @@ module _ (s : Sheet) (a : Admitted s) (k c : ℕ) (latest : List ℕ) (y : ℤ) 
 
     entry-plan : EntryPlan s entry
     entry-plan = record { schedule = schedule; arrives = size-F; arrivals = arrives; pair = pair-is }
+
+    -- a train that carries nothing awaits no release
+    empty-trains : EntryEmptyTrains s entry
+    empty-trains =
+        record {
+          leave-at-once = λ i p l none. leaves-at-once (s .paths) q released (nth S) ok cov least i p l
+              (omega (arith, ready-least (s .release) train i 0 n (λ j lj e. absurd (none j lj e))));
+        }
 
     -- no schedule below the limit arrives earlier, by any train
     sooner : (other departure : List ℕ) → Schedule s other departure → pairOf s other departure .worst <ℤ y
@@ -265,6 +276,7 @@ module _ (s : Sheet) (a : Admitted s) (k c : ℕ) (latest : List ℕ) (y : ℤ) 
               (λ other departure h l. sooner other departure h l q (a .complete .trains) (omega arith)) recorded (g .on-record .front);
           plans = record-all (EntryPlan s) recorded entry (g .on-record .plans) entry-plan;
           booked = record-all (EntryBooked s) recorded entry (g .on-record .booked) (record { each-train = size-W; by-window = books });
+          empty = record-all (EntryEmptyTrains s) recorded entry (g .on-record .empty) empty-trains;
           few = omega (arith, g .on-record .few, record-lengthens recorded entry .one-more);
         }
 

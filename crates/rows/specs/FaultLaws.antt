@@ -34,11 +34,11 @@ no-fault line t e₃ =
     let (p₆, e) = passed-granted (t .«in_order») _ _ e₆ in
     record { late = p₃; few = p₄; ranged = p₂; ordered = p₆ }
 
-pub no-last-fault : (complete balanced : Bool) → lastFault complete balanced ≡ Granted → (complete ≡ true) × (balanced ≡ true)
+pub no-last-fault : (complete roomy : Bool) → lastFault complete roomy ≡ Granted → (complete ≡ true) × (roomy ≡ true)
 unfolding lastFault
-no-last-fault complete balanced e₅ =
+no-last-fault complete roomy e₅ =
     let (p₅, e₇) = passed-granted complete _ _ e₅ in
-    let (p₇, e) = passed-granted balanced _ _ e₇ in
+    let (p₇, e) = passed-granted roomy _ _ e₇ in
     (p₅, p₇)
 
 -- a test that the first of a kind need not pass

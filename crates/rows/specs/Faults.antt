@@ -3,7 +3,7 @@
 use mathlib.Core.Bool.{Bool}
 use Prim.Native.Nat.{ℕ}
 use Rattle.model.specs.Admission.{passed}
-use Rattle.model.specs.declared.Refusal.the-variants.{OutOfRange, KindTooEarly, TooMany, KindMissing, OutOfOrder, PlacesDiffer}
+use Rattle.model.specs.declared.Refusal.the-variants.{OutOfRange, KindTooEarly, TooMany, KindMissing, OutOfOrder, TooFewPlaces}
 use Rattle.model.specs.declared.Admission.{Admission}
 use Rattle.model.specs.declared.Admission.the-variants.{Granted}
 use Rattle.rows.specs.declared.LineTests.{LineTests}
@@ -16,6 +16,6 @@ firstFault line t =
     (passed (t .«in_range») (OutOfRange line)
     (passed (t .«in_order») (OutOfOrder line) Granted)))
 
--- 5: "a kind is missing"; 7: "K_q differs from n"
+-- 5: "a kind is missing"; 7, in the words of document 02, No. 5: "the capacities add up to less than n"
 unfoldable pub lastFault : Bool → Bool → Admission
-lastFault complete balanced = passed complete KindMissing (passed balanced PlacesDiffer Granted)
+lastFault complete roomy = passed complete KindMissing (passed roomy TooFewPlaces Granted)

@@ -24,14 +24,14 @@ pub fn first_fault(line: usize, tests: LineTests) -> Admission
     Admission::Refused(Refusal::KindTooEarly(line))
 }
 
-pub fn last_fault(complete: bool, balanced: bool) -> Admission
-    ensures { λ r. ⌜ r ≡ lastFault complete balanced ⌝ }
+pub fn last_fault(complete: bool, roomy: bool) -> Admission
+    ensures { λ r. ⌜ r ≡ lastFault complete roomy ⌝ }
 {
     if complete {
-        if balanced {
+        if roomy {
             return Admission::Granted;
         }
-        return Admission::Refused(Refusal::PlacesDiffer);
+        return Admission::Refused(Refusal::TooFewPlaces);
     }
     Admission::Refused(Refusal::KindMissing)
 }

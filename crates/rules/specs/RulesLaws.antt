@@ -18,7 +18,7 @@ use Rattle.model.specs.Memory.{pathsBy, sheetOf}
 use Rattle.model.specs.Arrival.{arrival}
 use Rattle.model.specs.Lateness.{worst}
 use Rattle.model.specs.Schedule.{Schedule}
-use Rattle.model.specs.ScheduleTest.{in-a-window, allowed, full, released, is-schedule}
+use Rattle.model.specs.ScheduleTest.{in-a-window, allowed, room, released, is-schedule}
 use Rattle.model.specs.Admission.{Admitted}
 use Rattle.model.specs.AdmissionLaws.{decides-inside}
 use Rattle.model.specs.declared.Form.{Form}
@@ -30,12 +30,12 @@ use Rattle.timing.specs.TimingStepLaws.{row-arrivals}
 
 -- ---- one train more
 
--- the train at place i carries as many orders as it has places
-pub full-more : (capacity train : List ℕ) (n i : ℕ)
-    → (eqb (count (λ j. eqb (at train j) (i + 1)) n) (at capacity i)
-    && every (λ m. eqb (count (λ j. eqb (at train j) (suc m)) n) (nth capacity (suc m))) i)
-    ≡ every (λ m. eqb (count (λ j. eqb (at train j) (suc m)) n) (nth capacity (suc m))) (i + 1)
-full-more capacity train n i = rw (every-more, nth-at capacity i) (simp add-one)
+-- the train at place i carries no more orders than it has places
+pub room-more : (capacity train : List ℕ) (n i : ℕ)
+    → (leb (count (λ j. eqb (at train j) (i + 1)) n) (at capacity i)
+    && every (λ m. leb (count (λ j. eqb (at train j) (suc m)) n) (nth capacity (suc m))) i)
+    ≡ every (λ m. leb (count (λ j. eqb (at train j) (suc m)) n) (nth capacity (suc m))) (i + 1)
+room-more capacity train n i = rw (every-more, nth-at capacity i) (simp add-one)
 
 -- the train at place i leaves a gap behind the train ahead, at place i − 1
 pub spaced-more : (gap : ℕ) (departure : List ℕ) (i : ℕ) → 1 ≤ i
@@ -110,16 +110,16 @@ module _ (s : Sheet) (train departure : List ℕ) where
         (λ j l. ap (leb (s .release j)) (ap (nth departures) (train-is j l) ∙ departure-is (at train j) (h j l .0) (h j l .1)))
 
     pub tests-schedule : s .orders ≤ length train → s .trains ≤ length departure
-        → is-schedule s trains departures ≡ (full s train && released s train departure && allowed (s .paths) (s .trains) (nth departure))
+        → is-schedule s trains departures ≡ (room s train && released s train departure && allowed (s .paths) (s .trains) (nth departure))
     unfolding is-schedule
     tests-schedule long long′ =
         last-three (eqb (length trains) (s .orders)) (every (λ j. inside (1 – s .trains) (at trains j)) (s .orders))
-        (eqb (length departures) (s .trains)) (full s trains) (released s trains departures) (allowed (s .paths) (s .trains) (nth departures))
+        (eqb (length departures) (s .trains)) (room s trains) (released s trains departures) (allowed (s .paths) (s .trains) (nth departures))
         _ _ _
         (eq-eqb (length trains) (s .orders) (length-take-le (s .orders) train long))
         loaded
         (eq-eqb (length departures) (s .trains) (length-take-le (s .trains) departure long′))
-        (every-same _ _ (λ m. ap (λ (k : ℕ). eqb k (s .capacity (suc m))) (carried-same (suc m))) (s .trains))
+        (every-same _ _ (λ m. ap (λ (k : ℕ). leb k (s .capacity (suc m))) (carried-same (suc m))) (s .trains))
         released-same
         (allowed-same (s .paths) (s .trains) (nth departures) (nth departure) departure-is)
 

@@ -33,18 +33,18 @@ fn carried(train: &[u8; MOST_ORDERS], n: usize, i: u8) -> u32
     orders
 }
 
-// Whether each of q trains carries as many of n orders as it has places.
-fn are_full(n: usize, q: usize, capacity: [u32; MOST_TRAINS], train: [u8; MOST_ORDERS]) -> bool
+// Whether none of q trains carries more of n orders than it has places.
+fn have_room(n: usize, q: usize, capacity: [u32; MOST_TRAINS], train: [u8; MOST_ORDERS]) -> bool
     requires { ⌜ (n ≤ order-counts .most) × (q ≤ train-counts .most) ⌝ }
-    ensures { λ r. ⌜ r ≡ each (λ i. eqb (count (λ j. eqb (at train j) i) n) (nth capacity i)) q ⌝ }
+    ensures { λ r. ⌜ r ≡ each (λ i. leb (count (λ j. eqb (at train j) i) n) (nth capacity i)) q ⌝ }
 {
-    let mut full = true;
+    let mut room = true;
     let mut i: usize = 0;
     while i < q {
-        full = (carried(&train, n, (i + 1) as u8) == capacity[i]) & full;
+        room = (carried(&train, n, (i + 1) as u8) <= capacity[i]) & room;
         i += 1;
     }
-    full
+    room
 }
 
 // Whether none of n orders is released after the departure of its train.
@@ -74,8 +74,8 @@ pub fn is_schedule(sheet: Sheet, train: [u8; MOST_ORDERS], departure: [u32; MOST
     let n = sheet.order_count;
     let capacity = sheet.capacity;
     let release = sheet.release;
-    let full = are_full(n, sheet.train_count, capacity, train);
+    let room = have_room(n, sheet.train_count, capacity, train);
     let released = are_released(n, release, train, departure);
     let allowed = are_allowed(sheet, departure);
-    full & released & allowed
+    room & released & allowed
 }

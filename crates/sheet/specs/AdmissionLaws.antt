@@ -3,8 +3,8 @@ use mathlib.Core.Path.{_≡_}
 use mathlib.Core.Bool.{true, _&&_}
 use mathlib.Core.List.{List}
 use Prim.Native.Nat.{ℕ, _≤_, _<_}
-use lib.Dec.{leb, eqb}
-use borrow.Author.Tests.{leb-true, eqb-true}
+use lib.Dec.{leb}
+use borrow.Author.Tests.{leb-true}
 use Rattle.numbers.specs.Counting.{nth}
 use Rattle.numbers.specs.DecidesLaws.{and-true}
 use Rattle.model.specs.Sheet.{places}
@@ -75,7 +75,7 @@ unfolding sheetFrom endFault
 lines-admitted form s h e =
     let q = s .trains .count in
     let n = s .orders .count in
-    let (all, balanced) = no-last-fault (complete form s) (eqb (places (nth (s .trains .capacity)) q) n) e in
+    let (all, roomy) = no-last-fault (complete form s) (leb n (places (nth (s .trains .capacity)) q)) e in
     let (two, orders) = and-true (windowsComplete form s && leb 1 q) (leb 1 n) all in
     let (windows, trains) = and-true (windowsComplete form s) (leb 1 q) two in
     let paths = paths-admitted form s h windows in
@@ -89,7 +89,7 @@ lines-admitted form s h e =
             paths = paths .in-range;
           };
       in-order = paths .in-order;
-      balanced = eqb-true _ _ balanced;
+      roomy = leb-true _ _ roomy;
     }
 
 -- WHAT IS READ IS ADMITTED

@@ -46,3 +46,20 @@ readLines form (suc n) text p line s =
 unfoldable pub readFrom : Form → List ℕ → ℕ → SheetText
 unfolding readLines
 readFrom form text p = readLines form (length text) text p 1 noLines
+
+-- ---- the lines of a text with no test but that each is a line, up to its end or to what is none
+
+abbrev pub onNext : LineAt → SheetLines → (Line → ℕ → SheetLines) → SheetLines
+onNext (L.Read l next) s rest = rest l next
+onNext (L.Refused r) s rest = s
+
+-- those from position p on, as in `readLines`
+unfoldable pub allLines : ℕ → List ℕ → ℕ → ℕ → SheetLines → SheetLines
+unfolding lineAt withLine
+allLines zero text p line s = s
+allLines (suc n) text p line s =
+    cond (ltb p (length text)) (onNext (lineAt text p line) s (λ l next. allLines n text next (line + 1) (withLine s l))) s
+
+unfoldable pub linesIn : List ℕ → SheetLines
+unfolding allLines noLines
+linesIn text = allLines (length text) text 0 1 noLines

@@ -12,7 +12,7 @@ use Rattle.gather.specs.SheetLines.{noLines}
 use Rattle.sheet.specs.Reading.{refused, readFrom}
 use Rattle.sheet.specs.Sheets.{windowReading, timetableReading}
 use Rattle.sheet.specs.OrderNames.{nameIn}
-use Rattle.sheet.specs.TextCases.{text-a, text-h, Try, tries}
+use Rattle.sheet.specs.TextCases.{text-a, text-h, text-short, Try, tries}
 use Rattle.model.specs.declared.Admission.the-variants.{Granted, Refused}
 use Rattle.model.specs.declared.Form.the-variants.{Windows}
 
@@ -26,6 +26,12 @@ pub h-is-read : timetableSheet (timetableReading text-h .sheet) ≡ case-h
 unfolding timetableReading text-h
     numberField numberAt runOf decimalOf nameField numberCount recordOf numbersFrom numberFields noLines refused
 h-is-read = refl
+
+-- places to spare are no fault
+pub short-is-read : timetableReading text-short .admission ≡ Granted
+unfolding timetableReading text-short
+    numberField numberAt runOf decimalOf nameField numberCount recordOf numbersFrom numberFields noLines refused
+short-is-read = refl
 
 -- the name of order 2 is one byte, at position 50
 pub name-of-b : nameIn Windows text-a 2 ≡ record { start = 50; long = 1 }

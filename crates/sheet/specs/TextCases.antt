@@ -4,7 +4,7 @@ use Prim.Native.Nat.{ℕ}
 use Prim.Native.String as S
 use Rattle.fields.specs.Texts.{bytes}
 use Rattle.model.specs.declared.Refusal.{Refusal}
-use Rattle.model.specs.declared.Refusal.the-variants.{Malformed, OutOfRange, KindTooEarly, TooMany, KindMissing, OutOfOrder, PlacesDiffer}
+use Rattle.model.specs.declared.Refusal.the-variants.{Malformed, OutOfRange, KindTooEarly, TooMany, KindMissing, OutOfOrder, TooFewPlaces}
 use Rattle.model.specs.declared.Form.{Form}
 use Rattle.model.specs.declared.Form.the-variants.{Windows, Timetable}
 
@@ -15,6 +15,11 @@ text-a = bytes "G,60\nW,0,100\nW,150,200\nT,1,30\nT,2,20\nO,A,0,60,1\nO,B,40,60,
 unfoldable pub text-h : List ℕ
 unfolding bytes
 text-h = bytes "X,1,50,80\nX,2,95,120\nO,A,0,60,1\nO,B,40,60,3\nO,C,90,200,1\n"
+
+-- document 02, No. 5: five places for two orders
+unfoldable pub text-short : List ℕ
+unfolding bytes
+text-short = bytes "X,1,50,80\nX,4,95,120\nO,A,0,60,1\nO,B,40,60,3\n"
 
 pub record Try : Type 0 where
   pub form : Form
@@ -46,7 +51,7 @@ tries =
     ∷ windows "G,60\nO,ABCDEFGHIJKLM,0,0,1\n" (Malformed 2)
     ∷ windows "G,60\nO,a,0,0,1\n" (Malformed 2)
     ∷ windows "G,60\nT,1,30\nO,A,0,0,1\n" KindMissing
-    ∷ windows "G,60\nW,0,9\nT,2,30\nO,A,0,0,1\n" PlacesDiffer
+    ∷ windows "G,60\nW,0,9\nT,1,30\nO,A,0,0,1\nO,B,0,0,1\n" TooFewPlaces
     ∷ timetable "G,60\n" (Malformed 1)
     ∷ timetable "X,1,80,80\n" (OutOfOrder 1)
     ∷ timetable "X,1,50,80\nX,1,60,80\n" (OutOfOrder 2)

@@ -20,7 +20,7 @@ use Rattle.rounds.specs.ByRound.{SearchAreas, start-to, Calls, started, search-
 use Rattle.rounds.specs.ByRoundLaws.{decides-search-room, start-refuses}
 use Rattle.search.specs.Shows.{Shows}
 use Rattle.search.specs.declared.Progress.{Progress}
-use Rattle.planner.specs.CallLaws.{admitted, has-room}
+use Rattle.room.specs.CallLaws.{admitted, has-room}
 use Rattle.planner.specs.InAreas.{pairs-in}
 use Rattle.planner.specs.InAreasLaws.{pairs-read}
 use Rattle.watch.specs.State.{no-state, state-of}
@@ -62,7 +62,8 @@ module _ (s : Sheet) (lent : SearchAreas) (t : Admission) (is : t ≡ start-to s
         beside = λ l. absurd (omega (arith, l, ap numberOf e));
         no-eight = rw is (refuses .no-eight);
         no-nine = rw is (refuses .no-nine);
-        returns-zero = rw is (refuses .returns-zero);
+        returns-zero = rw is (refuses .as-any .returns-zero);
+        seven = rw is (refuses .as-any .seven);
       }
 
   pub start-refused : (f : Refusal) → t ≡ Refused f → StartCall s lent (start-gives no-state)
@@ -74,7 +75,8 @@ module _ (s : Sheet) (lent : SearchAreas) (t : Admission) (is : t ≡ start-to s
         beside = λ l. refl;
         no-eight = rw is (refuses .no-eight);
         no-nine = rw is (refuses .no-nine);
-        returns-zero = rw is (refuses .returns-zero);
+        returns-zero = rw is (refuses .as-any .returns-zero);
+        seven = rw is (refuses .as-any .seven);
       }
 
 -- ---- a look

@@ -2,10 +2,10 @@
 use mathlib.Core.Path.{_≡_}
 use mathlib.Core.Logic.{_⊎_}
 use mathlib.Core.List.{List}
-use Prim.Native.Nat.{ℕ, _*_, _≤_}
+use Prim.Native.Nat.{ℕ, _*_, _≤_, _<_}
 use lib.IntN.{ℤ}
 use lib.ListN.{length}
-use Rattle.model.specs.Sheet.{Sheet}
+use Rattle.model.specs.Sheet.{Sheet, places}
 use Rattle.model.specs.Limits.{numbers-a-pair}
 use Rattle.model.specs.Refusal.{of-round, numberOf, returnedOf}
 use Rattle.model.specs.declared.Admission.the-variants.{Granted}
@@ -30,6 +30,8 @@ pub record StartCall (s : Sheet) (lent : SearchAreas) (r : Started) : Type 0 whe
   pub no-eight : ¬ (numberOf (r .admission) ≡ 8)
   pub no-nine : ¬ (numberOf (r .admission) ≡ 9)
   pub returns-zero : returnedOf (r .admission) ≡ 0
+  -- document 02, No. 5: "refusal 7 is given only if the capacities add up to less than n"
+  pub seven : numberOf (r .admission) ≡ 7 → places (s .capacity) (s .trains) < s .orders
 
 -- ---- a round call, given this state, with the areas as left and as found
 

@@ -20,7 +20,7 @@ use Rattle.search.specs.Shows.{Stands, goes-on, has-ended, Shows}
 use Rattle.search.specs.ShowsLaws.{one-outcome}
 use Rattle.search.specs.Parts.{Begun}
 use Rattle.search.specs.PartsLaws.{begun}
-use Rattle.planner.specs.CallLaws.{passed, passes}
+use Rattle.room.specs.CallLaws.{passed, passes}
 use Rattle.watch.specs.State.{progress-of}
 use Rattle.watch.specs.Fit.{Fits}
 use Rattle.watch.specs.LeftBy.{LeftBy}

@@ -3,7 +3,6 @@ use crate::State;
 use crate::keeping::resume;
 use model::Admission;
 use model::Sheet;
-use planner::tests;
 ghost use Rattle.numbers.specs.DecidesLaws.{Decides};
 ghost use Rattle.model.specs.Memory.{sheetOf};
 ghost use Rattle.watch.specs.Fit.{Fits};
@@ -13,7 +12,7 @@ ghost use Rattle.watch.specs.Fit.{Fits};
 pub fn fits(state: State, sheet: Sheet, pairs: usize, trains: usize, times: usize) -> bool
     ensures { λ r. ⌜ Decides (Fits (sheetOf sheet) state pairs trains times) r ⌝ }
 {
-    let tested = tests::for_search(sheet, pairs, trains, times);
+    let tested = room::for_search(sheet, pairs, trains, times);
     let Admission::Granted = tested else {
         return false;
     };

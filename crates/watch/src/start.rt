@@ -6,7 +6,6 @@ use model::Admission;
 use model::Sheet;
 use model::TimetableSheet;
 use model::WindowSheet;
-use planner::tests;
 use search::start::start_search;
 ghost use Rattle.model.specs.Memory.{sheetOf, windowSheet, timetableSheet};
 ghost use Rattle.rounds.specs.ByRound.{all-areas};
@@ -16,7 +15,7 @@ ghost use Rattle.watch.specs.Calls.{StartCall};
 pub fn start(sheet: Sheet, pairs: &[i64], train_of_order: &[u8], times: &[u32]) -> Started
     ensures { λ r. ⌜ StartCall (sheetOf sheet) (all-areas (now (pairs .entry)) (now («train_of_order» .entry)) (now (times .entry))) r ⌝ }
 {
-    let tested = tests::for_search(sheet, pairs.len(), train_of_order.len(), times.len());
+    let tested = room::for_search(sheet, pairs.len(), train_of_order.len(), times.len());
     if let Admission::Refused(_) = tested {
         return Started {
             admission: tested,

@@ -14,10 +14,10 @@ pub const GUARD_PAIR: Pair = Pair { arrival: 7, lateness: 7 };
 pub const GUARD_TRAIN: u8 = 77;
 pub const GUARD_TIME: u32 = 777;
 
-/// Case a with a place more than there are orders.
-pub fn unequal() -> Sheet {
+/// Case a with a place fewer than there are orders.
+pub fn too_few_places() -> Sheet {
     let mut sheet = sheet_of(CASE_A);
-    sheet.capacity[0] += 1;
+    sheet.capacity[1] -= 1;
     sheet
 }
 
@@ -43,7 +43,7 @@ fn choose_guarded(sheet: &Sheet, wish: u32, lengths: [usize; 2]) -> (Result<Pair
 #[test]
 fn refused_listing() {
     for (sheet, length, number) in [
-        (unequal(), 0, PLACES_DIFFER),
+        (too_few_places(), 0, TOO_FEW_PLACES),
         (sheet_of(CASE_A), 5, AREA_TOO_SHORT),
         (sheet_of(CASE_A), 0, AREA_TOO_SHORT),
         (late(), 5, AREA_TOO_SHORT),
@@ -58,7 +58,7 @@ fn refused_listing() {
 #[test]
 fn refused_choosing() {
     for (sheet, wish, lengths, number) in [
-        (unequal(), 0, [0, 0], PLACES_DIFFER),
+        (too_few_places(), 0, [0, 0], TOO_FEW_PLACES),
         (sheet_of(CASE_A), u32::MAX, [2, 6], AREA_TOO_SHORT),
         (sheet_of(CASE_A), u32::MAX, [3, 5], AREA_TOO_SHORT),
         (sheet_of(CASE_A), u32::MAX, [3, 4], AREA_TOO_SHORT),

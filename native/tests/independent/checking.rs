@@ -1,5 +1,6 @@
 //! Plans from elsewhere: those of document 01's cases, our own, damaged, drawn and shuffled ones, and every plan of small sheets.
 
+use crate::areas::{late, too_few_places};
 use crate::judge::judged;
 use native::cases::{sheet_of, with, CASE_A, CASE_H};
 use native::checking::{check, check_by, check_in, Checked, ForeignPlan, Row};
@@ -23,8 +24,8 @@ fn plan(departures: &[u32], rows: &[(u32, u32)]) -> ForeignPlan {
     ForeignPlan { departures: departures.to_vec(), rows }
 }
 
-/// Two trains' departures and the trains of orders 1 to 3, on cases a and h and their like.
-fn said(text: &str, departures: [u32; 2], trains: [u32; 3]) -> Result<(u32, i64, bool), usize> {
+/// The departures and the trains of orders 1 to 3, on cases a and h and their like.
+fn said<const Q: usize>(text: &str, departures: [u32; Q], trains: [u32; 3]) -> Result<(u32, i64, bool), usize> {
     let rows: Vec<(u32, u32)> = (1..).zip(trains).collect();
     match check(&sheet_of(text), &plan(&departures, &rows)) {
         Ok(Checked { pair, listed, counts }) => {
@@ -57,7 +58,7 @@ fn of_case_a() {
     assert_eq!(said(CASE_A, [40, 149], by_weight), Err(RULE_BROKEN), "a minute before window 2");
     assert_eq!(said(CASE_A, [40, 201], by_weight), Err(RULE_BROKEN), "a minute behind window 2");
     assert_eq!(said(CASE_A, [150, 200], [1, 1, 2]), Err(RULE_BROKEN), "train 1 has one place, train 2 has two");
-    assert_eq!(said(CASE_A, [100, 200], [2, 2, 2]), Err(RULE_BROKEN), "train 1 is empty");
+    assert_eq!(said(CASE_A, [100, 200], [2, 2, 2]), Err(RULE_BROKEN), "train 2 has two places");
     assert_eq!(said(CASE_A, [u32::MAX; 2], by_release), Err(RULE_BROKEN));
     assert_eq!(
         said(CASE_A, [u32::MAX - 59, 90], by_release),
@@ -90,6 +91,36 @@ fn of_case_h() {
     assert_eq!(said(CASE_H, [50, 96], [2, 1, 3]), Err(WRONG_ROWS));
 }
 
+/// Three trains of two places for three orders: an empty train keeps gap and windows, and decides the last arrival where it is the last.
+#[test]
+fn of_short_trains() {
+    let empty = include_str!("../../../examples/empty.sheet");
+    assert_eq!(said(empty, [40, 100, 160], [1, 1, 2]), Ok((190, 30, true)), "train 3 is empty");
+    assert_eq!(said(empty, [0, 60, 150], [2, 2, 3]), Ok((170, 90, true)), "train 1 is empty");
+    assert_eq!(said(empty, [0, 90, 150], [1, 2, 2]), Ok((170, 150, false)), "train 3 is empty");
+    assert_eq!(said(empty, [0, 60, 150], [2, 3, 3]), Ok((170, 330, false)));
+    assert_eq!(said(empty, [40, 100, 200], [1, 1, 2]), Ok((220, 30, false)), "train 3, empty, leaves late");
+    assert_eq!(said(empty, [40, 100, 159], [1, 1, 2]), Err(RULE_BROKEN), "59 minutes behind train 2");
+    assert_eq!(said(empty, [40, 100, 201], [1, 1, 2]), Err(RULE_BROKEN), "a minute behind window 2");
+    assert_eq!(said(empty, [30, 89, 150], [1, 3, 3]), Err(RULE_BROKEN), "train 2, empty, 59 minutes behind train 1");
+    assert_eq!(said(empty, [100, 160, 0], [1, 1, 2]), Err(RULE_BROKEN), "train 3, empty, ahead of the others");
+    assert_eq!(said(empty, [0, 60, 150], [3, 3, 3]), Err(RULE_BROKEN), "three orders on train 3");
+    assert_eq!(said(empty, [40, 100], [1, 1, 2]), Err(WRONG_ROWS), "an empty train has a departure too");
+    let close = with(empty, "G,60", "G,10");
+    assert_eq!(said(&close, [100, 155, 170], [2, 2, 3]), Ok((190, 345, false)), "train 1, empty, leaves late");
+    assert_eq!(said(&close, [101, 155, 170], [2, 2, 3]), Err(RULE_BROKEN), "a minute behind window 1");
+}
+
+/// In the timetable form an empty train leaves as fixed.
+#[test]
+fn of_a_short_timetable() {
+    let third = with(CASE_H, "X,2,95,120\n", "X,2,95,120\nX,3,96,300\n");
+    assert_eq!(said(&third, [50, 95, 96], [2, 1, 2]), Ok((300, 60, true)), "train 3 is empty");
+    assert_eq!(said(&third, [50, 95, 96], [3, 3, 3]), Ok((300, 720, false)), "trains 1 and 2 are empty");
+    assert_eq!(said(&third, [50, 95, 97], [2, 1, 2]), Err(RULE_BROKEN), "the timetable says 96");
+    assert_eq!(said(&third, [50, 95, 96], [2, 2, 2]), Err(RULE_BROKEN), "train 2 has two places");
+}
+
 const GUARD: Pair = Pair { arrival: 7, lateness: 7 };
 
 /// The answer with an area of this length, filled with guards; where it is a refusal, nothing is written.
@@ -108,9 +139,7 @@ fn guarded(sheet: &Sheet, plan: &ForeignPlan, length: usize) -> Result<(Checked,
 #[test]
 fn refusals_in_turn() {
     let good = sheet_of(CASE_A);
-    let (mut unequal, mut late) = (good.clone(), good.clone());
-    unequal.capacity[0] += 1;
-    late.orders.release[0] = 201;
+    let (too_few_places, late) = (too_few_places(), late());
     let by_release = plan(&[0, 90], &[(1, 1), (2, 2), (3, 2)]);
     let no_gap = plan(&[90, 90], &[(1, 1), (2, 2), (3, 2)]);
     let twice = plan(&[0, 90], &[(1, 1), (2, 2), (2, 2)]);
@@ -118,8 +147,8 @@ fn refusals_in_turn() {
     let three_trains = plan(&[0, 90, 150], &[(1, 1), (2, 2), (3, 2)]);
     let nothing = ForeignPlan::default();
     for (sheet, plan, length, number) in [
-        (&unequal, &nothing, 0, PLACES_DIFFER),
-        (&unequal, &by_release, 6, PLACES_DIFFER),
+        (&too_few_places, &nothing, 0, TOO_FEW_PLACES),
+        (&too_few_places, &by_release, 6, TOO_FEW_PLACES),
         (&good, &by_release, 5, AREA_TOO_SHORT),
         (&good, &by_release, 0, AREA_TOO_SHORT),
         (&good, &no_gap, 5, AREA_TOO_SHORT),

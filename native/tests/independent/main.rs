@@ -10,5 +10,6 @@ mod printing;
 mod reading;
 mod rounds;
 mod schedules;
+mod short;
 mod watching;
 mod windows;

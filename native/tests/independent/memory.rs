@@ -45,7 +45,9 @@ fn window_sheets_are_tested() {
     assert_eq!(refused_windows(|windows, _, _| windows.gap = u32::MAX), Some(OUT_OF_RANGE));
     assert_eq!(refused_windows(|windows, _, _| windows.to[0] = 150), Some(OUT_OF_ORDER));
     assert_eq!(refused_windows(|windows, _, _| windows.to[0] = 149), None);
-    assert_eq!(refused_windows(|_, capacity, _| capacity[0] = 2), Some(PLACES_DIFFER));
+    assert_eq!(refused_windows(|_, capacity, _| capacity[1] = 1), Some(TOO_FEW_PLACES), "one place too few");
+    assert_eq!(refused_windows(|_, capacity, _| capacity[0] = 2), None, "one place to spare");
+    assert_eq!(refused_windows(|_, capacity, _| capacity.fill(MOST_CAPACITY)), None);
 }
 
 /// The whole sheet is gone through for each number in turn.
@@ -68,10 +70,15 @@ fn tests_in_turn() {
     });
     assert_eq!(refused, Some(TOO_MANY));
     let refused = refused_windows(|windows, capacity, _| {
-        capacity[1] = MOST_CAPACITY;
+        capacity[1] = 1;
         windows.from[1] = 100;
     });
     assert_eq!(refused, Some(OUT_OF_ORDER));
+    let refused = refused_windows(|_, capacity, orders| {
+        capacity[1] = 1;
+        orders.release[0] = LAST_INSTANT;
+    });
+    assert_eq!(refused, Some(TOO_FEW_PLACES));
 }
 
 #[test]
@@ -82,6 +89,8 @@ fn timetable_sheets_are_tested() {
     assert_eq!(refused_timetable(|timetable, _, _| timetable.departure[0] = 80), Some(OUT_OF_ORDER));
     assert_eq!(refused_timetable(|timetable, _, _| timetable.arrival[0] = 0), Some(OUT_OF_RANGE));
     assert_eq!(refused_timetable(|_, capacity, _| capacity[0] = MOST_CAPACITY + 1), Some(OUT_OF_RANGE));
-    assert_eq!(refused_timetable(|_, _, orders| orders.push(0, 0, 1)), Some(PLACES_DIFFER));
+    assert_eq!(refused_timetable(|_, _, orders| orders.push(0, 0, 1)), Some(TOO_FEW_PLACES), "one place too few");
+    assert_eq!(refused_timetable(|_, capacity, _| capacity[1] = 3), None, "one place to spare");
+    assert_eq!(refused_timetable(|_, capacity, _| capacity.fill(MOST_CAPACITY)), None);
     assert_eq!(refused_timetable(|_, _, orders| *orders = many_orders()), Some(TOO_MANY));
 }

@@ -20,6 +20,14 @@ fn cases_a_to_i() {
     }
 }
 
+/// No wagon arrives behind minute 130, but train 3, which is empty, does.
+#[test]
+fn the_example_of_an_empty_train() {
+    let text = include_bytes!("../../../examples/empty.sheet");
+    let plan = "P,170,90\nP,190,30\nD,1,40,70,1\nD,2,100,130,1\nD,3,160,190,2\nL,A,1\nL,B,1\nL,C,2\nR,5\n";
+    assert_eq!(print(text), plan);
+}
+
 #[test]
 fn stored_sheets_print_as_stored() {
     let stored = stored_sheets();

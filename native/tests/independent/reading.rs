@@ -89,10 +89,10 @@ fn damaged_texts() {
         met[number] += 1;
         match number {
             MALFORMED => assert_eq!(malformed, Some(returned)),
-            KIND_MISSING | PLACES_DIFFER => assert_eq!((malformed, returned), (None, 0)),
+            KIND_MISSING | TOO_FEW_PLACES => assert_eq!((malformed, returned), (None, 0)),
             _ => assert!(returned > 0 && malformed.is_none_or(|line| returned < line)),
         }
     }
-    assert!(met[..=PLACES_DIFFER].iter().all(|&count| count > 20), "{met:?}");
-    assert!(met[PLACES_DIFFER + 1..].iter().all(|&count| count == 0), "{met:?}");
+    assert!(met[..=TOO_FEW_PLACES].iter().all(|&count| count > 20), "{met:?}");
+    assert!(met[TOO_FEW_PLACES + 1..].iter().all(|&count| count == 0), "{met:?}");
 }

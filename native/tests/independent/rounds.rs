@@ -1,8 +1,8 @@
 use native::draw::{big, small};
-use native::ladder::{ladder_timetable, ladder_windows, Ladder};
+use native::ladder::{ladder_timetable, ladder_windows, short_ladder_timetable, short_ladder_windows, Ladder};
 use native::limits::{MOST_CAPACITY, MOST_ORDERS, MOST_TRAINS};
 use native::plan::{Listing, Pair};
-use native::planner::{choose, list};
+use native::planner::{choose, list, most_rounds};
 use native::refusal::{Refusal, NO_SCHEDULE, WISH_TOO_EARLY};
 use native::rng::Rng;
 use native::sheet::{Sheet, FORMS};
@@ -45,5 +45,24 @@ fn ladders() {
         let ladder = Ladder { release, stir, shuffled: stir > 0 };
         check_rounds(&ladder_windows(&mut rng, 60, 12, ladder, opens));
         check_rounds(&ladder_timetable(&mut rng, 60, 12, ladder));
+    }
+}
+
+/// With places to spare, and without changes of the due times, each round has one order move by one train: no search makes more rounds.
+#[test]
+fn short_ladders() {
+    let mut rng = Rng::new(20);
+    let trains = |places: u32| [vec![20, 20, 20], vec![places; 9]].concat();
+    for (release, stir, opens, places) in [(0, 0, 0, 20), (300, 0, 300, 1), (300, 3, 300, 5), (3_000, 50, 0, 20)] {
+        let ladder = Ladder { release, stir, shuffled: stir > 0 };
+        let sheets = [
+            short_ladder_windows(&mut rng, 50, trains(places), ladder, opens),
+            short_ladder_timetable(&mut rng, 50, trains(places), ladder),
+        ];
+        for sheet in sheets {
+            check_rounds(&sheet);
+            let rounds = list(&sheet).expect("a ladder has a plan").rounds;
+            assert!(stir > 0 || rounds == most_rounds(&sheet), "{rounds} {sheet:?}");
+        }
     }
 }

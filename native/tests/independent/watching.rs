@@ -1,7 +1,7 @@
 //! The search by single rounds: known sheets call by call, and the start's refusals; then drawn and stored sheets, each call against the rounds word for
 //! word, and the end against the unbroken search.
 
-use crate::areas::{late, unequal, GUARD_PAIR, GUARD_TIME, GUARD_TRAIN};
+use crate::areas::{late, too_few_places, GUARD_PAIR, GUARD_TIME, GUARD_TRAIN};
 use native::cases::{cases, sheet_of, CASE_A};
 use native::draw::{big, drawn_size, small};
 use native::finality::is_later;
@@ -129,8 +129,8 @@ fn cases_a_to_i() {
 fn refused_starts() {
     let good = sheet_of(CASE_A);
     for (sheet, lengths, number) in [
-        (&unequal(), [0, 0, 0], Some(PLACES_DIFFER)),
-        (&unequal(), [6, 3, 6], Some(PLACES_DIFFER)),
+        (&too_few_places(), [0, 0, 0], Some(TOO_FEW_PLACES)),
+        (&too_few_places(), [6, 3, 6], Some(TOO_FEW_PLACES)),
         (&good, [5, 3, 6], Some(AREA_TOO_SHORT)),
         (&good, [0, 3, 6], Some(AREA_TOO_SHORT)),
         (&good, [6, 2, 6], Some(AREA_TOO_SHORT)),

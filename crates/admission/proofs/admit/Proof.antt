@@ -6,7 +6,7 @@ use borrow.Author.Tests.{not-true, not-false}
 use Rattle.numbers.specs.DecidesLaws.{test-means}
 use Rattle.model.specs.Sheet.{Sheet}
 use Rattle.model.specs.Memory.{sheetOf}
-use Rattle.model.specs.Admission.{Few, few, complete, inRange, inOrder, balanced, admission}
+use Rattle.model.specs.Admission.{Few, few, complete, inRange, inOrder, roomy, admission}
 use Rattle.model.specs.AdmissionLaws.{decides-few}
 use Rattle.admission.specs.FirstRefusal.{firstRefusal}
 use Rattle.admission.proofs.admit.Statement.{statement}
@@ -27,7 +27,7 @@ few-holds : (c : tie.Else1) → Few (sheet c)
 few-holds c = test-means (decides-few _) (few-passed c)
 
 -- a sheet that passes test 4 has the answer of the other tests
-others : (c : tie.Else1) → firstRefusal (complete (sheet c)) (inRange (sheet c)) (inOrder (sheet c)) (balanced (sheet c)) ≡ admission (sheet c)
+others : (c : tie.Else1) → firstRefusal (complete (sheet c)) (inRange (sheet c)) (inOrder (sheet c)) (roomy (sheet c)) ≡ admission (sheet c)
 unfolding admission
 others c = rw (few-passed c)
 

@@ -17,12 +17,12 @@ passed₆ c = not-false _ (c .if3 .left)
 returns-4 : tie.Need-returns-4
 returns-4 c =
     let p = c .before in
-    rw (passed₅ (p .before .before), passed₂ (p .before), passed₆ p, not-true (p .before .before .before .args .balanced) (c .if4 .taken))
+    rw (passed₅ (p .before .before), passed₂ (p .before), passed₆ p, not-true (p .before .before .before .args .roomy) (c .if4 .taken))
 
 returns-5 : tie.Need-returns-5
 returns-5 c =
     let p = c .before in
-    rw (passed₅ (p .before .before), passed₂ (p .before), passed₆ p, not-false (p .before .before .before .args .balanced) (c .if4 .left))
+    rw (passed₅ (p .before .before), passed₂ (p .before), passed₆ p, not-false (p .before .before .before .args .roomy) (c .if4 .left))
 
 pub first-refusal-spec : {M : Type 1} → statement M
 first-refusal-spec =

@@ -5,7 +5,7 @@ use mathlib.Core.Path.{sym, _∙_}
 use mir.Facts.{toZ-ofZ}
 use mir.Syntax.{w64}
 use Rattle.model.specs.Memory.{sheetOf}
-use Rattle.planner.specs.CallLaws.{admitted}
+use Rattle.room.specs.CallLaws.{admitted}
 use Rattle.checker.specs.JudgingLaws.{told-refused, told-broken, told-kept, in-area}
 use Rattle.checker.specs.CheckingLaws.{checking-call}
 use Rattle.checker.proofs.check.Statement.{statement}

@@ -8,8 +8,8 @@ use Rattle.rules.specs.RulesLaws.{tests-schedule}
 use Rattle.rules.proofs.is_schedule.Statement.{statement}
 use Rattle.rules.proofs.is_schedule.Tie as tie
 
--- the entry from where it is tested whether the trains are full
-abbrev entry : tie.After-are-full → tie.Start
+-- the entry from where it is tested whether the trains have room
+abbrev entry : tie.After-have-room → tie.Start
 entry c = c .before .before .before
 
 long : (s : tie.Start) → (length (s .args .train) ≡ 200) × (length (s .args .departure) ≡ 32)
@@ -21,7 +21,7 @@ returns c =
     let s = entry (released .before) in
     let a = s .args in
     let few = s .pre .0 .few in
-    rw (released .before .are-full .ensures, released .are-released .ensures, c .are-allowed .ensures)
+    rw (released .before .have-room .ensures, released .are-released .ensures, c .are-allowed .ensures)
     (sym (tests-schedule (sheetOf (a .sheet)) (a .train) (a .departure) (s .pre .1) (omega (arith, long s .0, few .orders))
     (omega (arith, long s .1, few .trains))))
 

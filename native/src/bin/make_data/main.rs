@@ -10,6 +10,8 @@ mod drawn;
 mod limits;
 mod parts;
 mod searched;
+mod short;
+mod short_ladders;
 mod store;
 mod timetable_refusals;
 mod window_refusals;
@@ -27,8 +29,10 @@ fn main() {
     by_hand::store_all(&mut store);
     searched::store_all(&mut store);
     drawn::store_hard(&mut store);
+    short_ladders::store_hard(&mut store);
     bytes::store_all(&mut store);
     drawn::store_any(&mut store);
+    short::store_all(&mut store);
     match args.get(1) {
         Some(folder) => store.given(Path::new(folder)),
         None => store.given_before(),

@@ -1,7 +1,7 @@
 //! Small sheets found by random search for what their rounds show.
 
 use crate::store::Store;
-use native::draw::small;
+use native::draw::small_full;
 use native::plan::Entry;
 use native::rng::Rng;
 use native::sheet::{Form, Sheet};
@@ -10,7 +10,7 @@ use Outcome::*;
 
 /// A search gives up after so many sheets.
 const MOST_TRIES: usize = 500_000;
-const SMALL_ORDERS: u32 = 9;
+pub const SMALL_ORDERS: u32 = 9;
 
 /// A sheet's name, and what its rounds must show.
 type Wanted = (&'static str, fn(&Trace) -> bool);
@@ -58,18 +58,22 @@ const OTHER_WINDOWS: Wanted = ("other-windows-in-each-of-four-pairs", |t| {
 
 pub fn store_all(store: &mut Store) {
     let mut rng = Rng::new(11);
+    let mut find = |form: Form, wanted: fn(&Trace) -> bool| {
+        find_showing(|| small_full(&mut rng, form, SMALL_ORDERS), |_, trace| wanted(trace))
+    };
     store.group(430);
     for (name, wanted) in WINDOWS {
-        store.planned_sheet(name, &find_showing(&mut rng, Form::Windows, wanted));
+        store.planned_sheet(name, &find(Form::Windows, wanted));
     }
     for (name, wanted) in TIMETABLE {
-        store.planned_sheet(&format!("{name}-timetable"), &find_showing(&mut rng, Form::Timetable, wanted));
+        store.planned_sheet(&format!("{name}-timetable"), &find(Form::Timetable, wanted));
     }
     let (name, wanted) = OTHER_WINDOWS;
-    store.planned_sheet(name, &find_showing(&mut rng, Form::Windows, wanted));
+    store.planned_sheet(name, &find(Form::Windows, wanted));
 }
 
-fn find_showing(rng: &mut Rng, form: Form, wanted: fn(&Trace) -> bool) -> Sheet {
-    let mut sheets = std::iter::repeat_with(|| small(rng, form, SMALL_ORDERS)).take(MOST_TRIES);
-    sheets.find(|sheet| wanted(&trace(sheet))).expect("a sheet that shows this")
+/// The first drawn sheet whose rounds show what is wanted.
+pub fn find_showing(draw: impl FnMut() -> Sheet, wanted: impl Fn(&Sheet, &Trace) -> bool) -> Sheet {
+    let mut sheets = std::iter::repeat_with(draw).take(MOST_TRIES);
+    sheets.find(|sheet| wanted(sheet, &trace(sheet))).expect("a sheet that shows this")
 }

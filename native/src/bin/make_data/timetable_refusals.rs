@@ -1,4 +1,4 @@
-//! Refused texts of the timetable form.
+//! Refused texts of the timetable form, and some that were refused while every train had to be full.
 
 use crate::parts::{fixed_train_lines, order_lines};
 use crate::store::Store;
@@ -30,7 +30,7 @@ fn one_fault(store: &mut Store) {
     store.refused("x6-arrivals-equal", h("X,2,95,120", "X,2,79,80").replace("X,1,50", "X,1,5"), "E,6,2");
     store.refused("x6-arrivals-fall", h("X,2,95,120", "X,2,60,79"), "E,6,2");
     store.refused("x7-one-place-too-few", h("X,2,95", "X,1,95"), "E,7,0");
-    store.refused("x7-one-place-too-many", h("X,2,95", "X,3,95"), "E,7,0");
+    store.planned("x-one-place-to-spare", &h("X,2,95", "X,3,95"));
     store.refused("x8-release-behind-last-departure", h("C,90", "C,96"), "E,8,0");
     store.refused("x8-all-too-early-for-train-1", h("X,1,50,80", "X,1,10,80").replace("A,0,60", "A,11,60"), "E,8,0");
 }
@@ -55,6 +55,8 @@ fn two_faulty_lines(store: &mut Store) {
     store.refused("x-lines-6-then-1", "X,1,5,5\nX\n", "E,6,1");
     store.refused("x-lines-2-then-3", "X,65,0,1\nO,A,0,0,1\nX,1,2,3\n", "E,2,1");
     store.refused("x-lines-6-then-2", "X,1,5,4\nX,1,6,160001\n", "E,6,1");
-    store.refused("x-lines-5-before-7", "X,1,5,6\n", "E,5,0");
-    store.refused("x-lines-7-before-8", "X,2,5,6\nO,A,9,0,1\n", "E,7,0");
+    store.refused("x5-one-place-no-order", "X,1,5,6\n", "E,5,0");
+    store.refused("x8-one-place-to-spare", "X,2,5,6\nO,A,9,0,1\n", "E,8,0");
+    store.refused("x-lines-2-then-7", h("C,90,200,1", "C,90,200,0").replace("X,2,95", "X,1,95"), "E,2,5");
+    store.refused("x-lines-7-before-8", h("C,90", "C,96").replace("X,2,95", "X,1,95"), "E,7,0");
 }

@@ -1,4 +1,4 @@
-//! Refused texts of the window form.
+//! Refused texts of the window form, and some that were refused while every train had to be full.
 
 use crate::parts::{order_lines, train_lines, window_lines};
 use crate::store::Store;
@@ -58,8 +58,8 @@ fn order_and_places(store: &mut Store) {
     store.refused("w6-from-equals-previous-to", a("W,150,200", "W,100,200"), "E,6,3");
     store.refused("w6-windows-fall", a("W,0,100\nW,150,200", "W,150,200\nW,0,100"), "E,6,3");
     store.refused("w7-one-place-too-few", a("T,2,20", "T,1,20"), "E,7,0");
-    store.refused("w7-one-place-too-many", a("T,2,20", "T,3,20"), "E,7,0");
-    store.refused("w7-most-places", format!("G,1\nW,0,9\n{}{}", "T,64,1\n".repeat(32), order_lines(200)), "E,7,0");
+    store.planned("w-one-place-to-spare", &a("T,2,20", "T,3,20"));
+    store.refused("w8-most-places", format!("G,1\nW,0,9\n{}{}", "T,64,1\n".repeat(32), order_lines(200)), "E,8,0");
 }
 
 fn no_schedule(store: &mut Store) {
@@ -110,7 +110,10 @@ fn two_faulty_lines(store: &mut Store) {
         }
     }
     store.refused("w-lines-6-then-5", "W,5,4\n", "E,6,1");
-    store.refused("w-lines-2-then-7", a("C,90,200,1", "C,90,200,0").replace("T,1,30", "T,2,30"), "E,2,8");
-    store.refused("w-lines-5-before-7", "G,1\nW,0,9\nT,2,1\n", "E,5,0");
-    store.refused("w-lines-7-before-8", "G,1\nW,0,0\nT,2,1\nO,A,9,0,1\n", "E,7,0");
+    store.refused("w2-one-place-to-spare", a("C,90,200,1", "C,90,200,0").replace("T,1,30", "T,2,30"), "E,2,8");
+    store.refused("w5-two-places-no-order", "G,1\nW,0,9\nT,2,1\n", "E,5,0");
+    store.refused("w8-one-place-to-spare", "G,1\nW,0,0\nT,2,1\nO,A,9,0,1\n", "E,8,0");
+    store.refused("w-lines-2-then-7", a("C,90,200,1", "C,90,200,0").replace("T,2,20", "T,1,20"), "E,2,8");
+    store.refused("w-lines-5-before-7", a("G,60\n", "").replace("T,2,20", "T,1,20"), "E,5,0");
+    store.refused("w-lines-7-before-8", a("C,90", "C,201").replace("T,2,20", "T,1,20"), "E,7,0");
 }

@@ -6,7 +6,7 @@ use Rattle.gather.proofs.end_tests.end_fault.Tie as tie
 
 returns : tie.Need-returns
 unfolding endFault
-returns c = rw (← c .before .before .is-complete .ensures, ← c .before .before .before .before .places-of .ensures) (c .last-fault .ensures)
+returns c = rw (← c .before .is-complete .ensures, ← c .before .before .are-enough .ensures) (c .last-fault .ensures)
 
 pub end-fault-spec : {M : Type 1} → statement M
 end-fault-spec =

@@ -22,7 +22,7 @@ use Rattle.planner.specs.SoFar.{Running, recorded-now, Holds}
 use Rattle.planner.specs.ChoiceRoundLaws.{both, not-both, choice-begun, choice-taken, choice-kept, choice-ended}
 use Rattle.planner.specs.RunningLaws.{begun, more, can-go-on, next, next-better}
 use Rattle.planner.specs.ChoosingLaws.{told-refused, told-rounds, choosing-call}
-use Rattle.planner.specs.CallLaws.{admitted, has-room}
+use Rattle.room.specs.CallLaws.{admitted, has-room}
 use Rattle.planner.proofs.choosing.choose.Statement.{statement}
 use Rattle.planner.proofs.choosing.choose.Tie as tie
 

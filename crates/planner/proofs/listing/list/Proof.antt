@@ -20,7 +20,7 @@ use Rattle.search.specs.RunLaws.{not-yet, by-now}
 use Rattle.planner.specs.SoFar.{Running, recorded-now}
 use Rattle.planner.specs.RunningLaws.{begun, more, can-go-on, next, next-better, next-same, list-begun, list-better, list-same, list-ended}
 use Rattle.planner.specs.ListingLaws.{told-refused, told-rounds, listing-call}
-use Rattle.planner.specs.CallLaws.{admitted, has-room}
+use Rattle.room.specs.CallLaws.{admitted, has-room}
 use Rattle.planner.proofs.listing.list.Statement.{statement}
 use Rattle.planner.proofs.listing.list.Tie as tie
 

@@ -14,7 +14,7 @@ is-crowded-requires : tie.Need-is-crowded-requires
 is-crowded-requires c κs =
     let s = entry (c .before .before) in
     let a = s .pre in
-    (a .few .orders, a .few .trains, capacities (s .args .sheet) a, omega (arith, a .balanced))
+    (a .few .orders, a .few .trains, capacities (s .args .sheet) a, omega (arith, a .roomy))
 
 mul-result : tie.Need-mul-result
 mul-result c = let a = entry (c .before .before .before .before) .pre in omega (arith, mul-le-mul (a .few .orders) (a .few .trains))

@@ -199,6 +199,6 @@ round-spec =
     lower-requires
     (λ c κs. let s = at-start (c .before .before .before) in
     let a = s .pre .0 in
-    (a .few .orders, a .few .trains, capacities (s .args .sheet) a, omega (arith, a .balanced)))
+    (a .few .orders, a .few .trains, capacities (s .args .sheet) a, omega (arith, a .roomy)))
     returns
     returns-2)

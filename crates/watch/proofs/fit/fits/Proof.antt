@@ -4,7 +4,7 @@ use native.Mathlib.Omega.{arith}
 use native.Mathlib.Nat.{mul-le-mul}
 use Rattle.model.specs.Memory.{sheetOf}
 use Rattle.model.specs.Admission.{Admitted}
-use Rattle.planner.specs.CallLaws.{admitted}
+use Rattle.room.specs.CallLaws.{admitted}
 use Rattle.watch.specs.FitLaws.{unfit, decides-ended, decides-going}
 use Rattle.watch.proofs.fit.fits.Statement.{statement}
 use Rattle.watch.proofs.fit.fits.Tie as tie

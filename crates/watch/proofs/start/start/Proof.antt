@@ -3,7 +3,7 @@ use borrow.Author.Needs.{needs}
 use mathlib.Core.Path.{_≡_}
 use Rattle.model.specs.Memory.{sheetOf}
 use Rattle.rounds.specs.ByRound.{SearchAreas, all-areas, start-to}
-use Rattle.planner.specs.CallLaws.{admitted}
+use Rattle.room.specs.CallLaws.{admitted}
 use Rattle.watch.specs.CallLaws.{start-refused, start-granted}
 use Rattle.watch.proofs.start.start.Statement.{statement}
 use Rattle.watch.proofs.start.start.Tie as tie
