@@ -1,60 +1,14 @@
 // Checking a foreign plan. The rows of order and train are a lent list of records, laid out as in C.
-use crate::Cause;
-use crate::cause_of;
+use exported::checking::Check;
+use exported::checking::check_of;
 use foreign::Given;
 use foreign::gather;
-use model::CheckReply;
 use model::Row;
 use model::TimetableSheet;
 use model::WindowSheet;
-ghost use mathlib.Core.Path.{_≡_};
 ghost use Rattle.model.specs.Memory.{windowSheet, timetableSheet};
 ghost use Rattle.checker.specs.Checking.{CheckedOf};
-ghost use Rattle.capi.specs.ExportedChecking.{checkOf, ExportedCheck};
-
-// What checking a plan gives: its pair, last arrival and worst weighted lateness, whether that pair is listed, how many pairs are listed and how many rounds
-// were made; or the cause beside noughts.
-#[repr(C)]
-pub struct Check {
-    pub cause: Cause,
-    pub last: u32,
-    pub worst: i64,
-    pub listed: bool,
-    pub pairs: usize,
-    pub rounds: usize,
-}
-
-fn check_of(reply: CheckReply) -> Check
-    ensures { λ r. ⌜ r ≡ checkOf reply ⌝ }
-{
-    match reply {
-        CheckReply::Checked {
-            last,
-            worst,
-            listed,
-            pairs,
-            rounds,
-        } => Check {
-            cause: Cause {
-                number: 0,
-                returned: 0,
-            },
-            last: last,
-            worst: worst,
-            listed: listed,
-            pairs: pairs,
-            rounds: rounds,
-        },
-        CheckReply::Refused(refusal) => Check {
-            cause: cause_of(refusal),
-            last: 0,
-            worst: 0,
-            listed: false,
-            pairs: 0,
-            rounds: 0,
-        },
-    }
-}
+ghost use Rattle.exported.specs.ExportedChecking.{ExportedCheck};
 
 // Checks a plan whose rows are gathered, of the window form.
 fn check_gathered_windows(

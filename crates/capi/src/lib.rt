@@ -1,14 +1,18 @@
-// The calls for C and Rust: for each form reading a text, the place of an order's name in it, listing the pairs of a sheet, choosing a plan and, in
-// `checking`, checking one. Not exported are a name as a part of the text, the tests of a sheet alone, and printing. The calls take and return numbers,
-// slices (in C a pointer, then a length) and structs laid out as in C, and ask nothing of their caller. include/joshkamber.h declares them.
+// The calls for C and Rust: for each form reading a text, the place of an order's name in it, listing the pairs of a sheet, choosing a plan, in `checking`
+// checking one, and in `watching` a search by single calls. Not exported are a name as a part of the text, the tests of a sheet alone, and printing. The
+// calls take and return numbers, slices (in C a pointer, then a length) and structs laid out as in C, those of `exported` among them, and ask nothing of
+// their caller. include/joshkamber.h declares them.
 pub mod checking;
 pub mod watching;
 
+use exported::Choice;
+use exported::Listing;
+use exported::TimetableRead;
+use exported::WindowsRead;
+use exported::cause_in;
+use exported::choice_of;
+use exported::listing_of;
 use fields::NamePlace;
-use model::Admission;
-use model::ChoiceReply;
-use model::ListReply;
-use model::Refusal;
 use model::TimetableSheet;
 use model::WindowSheet;
 ghost use mathlib.Core.Path.{_≡_};
@@ -17,108 +21,8 @@ ghost use Rattle.fields.specs.NamePlaces.{placeOf};
 ghost use Rattle.sheet.specs.OrderNames.{nameIn};
 ghost use Rattle.model.specs.declared.Form.the-variants.{Windows, Timetable};
 ghost use Rattle.rounds.specs.Told.{areas};
-ghost use Rattle.capi.specs.Exported.{causeOf, causeIn, windowsRead, timetableRead, ExportedReading};
-ghost use Rattle.capi.specs.ExportedPlanning.{listingOf, ExportedListing, choiceOf, ExportedChoice};
-
-// Why an input is refused: document 01's number and returned value. 0 and 0 say that it is not.
-#[repr(C)]
-pub struct Cause {
-    pub number: usize,
-    pub returned: usize,
-}
-
-// A text of the window form as read: the sheet, or the cause beside the empty sheet.
-#[repr(C)]
-pub struct WindowsRead {
-    pub cause: Cause,
-    pub sheet: WindowSheet,
-}
-
-// The same for the timetable form.
-#[repr(C)]
-pub struct TimetableRead {
-    pub cause: Cause,
-    pub sheet: TimetableSheet,
-}
-
-// What listing the pairs of a sheet gives: how many pairs are listed and how many rounds were made, or the cause beside 0 and 0.
-#[repr(C)]
-pub struct Listing {
-    pub cause: Cause,
-    pub pairs: usize,
-    pub rounds: usize,
-}
-
-// What choosing a plan gives: the pair that was chosen, last arrival and worst weighted lateness, or the cause beside 0 and 0.
-#[repr(C)]
-pub struct Choice {
-    pub cause: Cause,
-    pub last: u32,
-    pub worst: i64,
-}
-
-fn cause_of(refusal: Refusal) -> Cause
-    ensures { λ r. ⌜ r ≡ causeOf refusal ⌝ }
-{
-    let number = model::refusal_number(refusal);
-    let returned = model::refusal_returned(refusal);
-    Cause {
-        number: number,
-        returned: returned,
-    }
-}
-
-fn cause_in(admission: Admission) -> Cause
-    ensures { λ r. ⌜ r ≡ causeIn admission ⌝ }
-{
-    match admission {
-        Admission::Granted => Cause {
-            number: 0,
-            returned: 0,
-        },
-        Admission::Refused(refusal) => cause_of(refusal),
-    }
-}
-
-fn listing_of(reply: ListReply) -> Listing
-    ensures { λ r. ⌜ r ≡ listingOf reply ⌝ }
-{
-    match reply {
-        ListReply::Listed { pairs, rounds } => Listing {
-            cause: Cause {
-                number: 0,
-                returned: 0,
-            },
-            pairs: pairs,
-            rounds: rounds,
-        },
-        ListReply::Refused(refusal) => Listing {
-            cause: cause_of(refusal),
-            pairs: 0,
-            rounds: 0,
-        },
-    }
-}
-
-fn choice_of(reply: ChoiceReply) -> Choice
-    ensures { λ r. ⌜ r ≡ choiceOf reply ⌝ }
-{
-    match reply {
-        ChoiceReply::Chosen { last, worst } => Choice {
-            cause: Cause {
-                number: 0,
-                returned: 0,
-            },
-            last: last,
-            worst: worst,
-        },
-        ChoiceReply::Refused(refusal) => Choice {
-            cause: cause_of(refusal),
-            last: 0,
-            worst: 0,
-        },
-    }
-}
+ghost use Rattle.exported.specs.Exported.{windowsRead, timetableRead, ExportedReading};
+ghost use Rattle.exported.specs.ExportedPlanning.{ExportedListing, ExportedChoice};
 
 // Reads a text of the window form.
 #[no_mangle]

@@ -1,84 +1,15 @@
 // A search that is watched: started, moved by one round a call, and looked at between rounds.
-use crate::Cause;
-use crate::cause_in;
-use crate::cause_of;
-use model::RoundReply;
+use exported::watching::Round;
+use exported::watching::Start;
+use exported::watching::round_of;
+use exported::watching::start_of;
 use model::TimetableSheet;
 use model::WindowSheet;
-use watch::Moved;
-use watch::Started;
 use watch::State;
-ghost use mathlib.Core.Path.{_≡_};
 ghost use Rattle.model.specs.Memory.{windowSheet, timetableSheet};
 ghost use Rattle.rounds.specs.ByRound.{all-areas};
 ghost use Rattle.watch.specs.Calls.{LookCall};
-ghost use Rattle.capi.specs.ExportedWatching.{startOf, roundOf, ExportedStart, ExportedRound};
-
-// What a start gives: the state, or the cause beside noughts.
-#[repr(C)]
-pub struct Start {
-    pub cause: Cause,
-    pub state: State,
-}
-
-// What a round call gives: the next state, and whether the search has ended; then how many pairs are listed and how many rounds were made, or the cause beside
-// 0 and 0.
-#[repr(C)]
-pub struct Round {
-    pub cause: Cause,
-    pub ended: bool,
-    pub pairs: usize,
-    pub rounds: usize,
-    pub state: State,
-}
-
-fn start_of(started: Started) -> Start
-    ensures { λ r. ⌜ r ≡ startOf started ⌝ }
-{
-    let admission = started.admission;
-    let cause = cause_in(admission);
-    let state = started.state;
-    Start {
-        cause: cause,
-        state: state,
-    }
-}
-
-fn round_of(moved: Moved) -> Round
-    ensures { λ r. ⌜ r ≡ roundOf moved ⌝ }
-{
-    let reply = moved.reply;
-    let state = moved.state;
-    match reply {
-        RoundReply::GoesOn => Round {
-            cause: Cause {
-                number: 0,
-                returned: 0,
-            },
-            ended: false,
-            pairs: 0,
-            rounds: 0,
-            state: state,
-        },
-        RoundReply::Ended { pairs, rounds } => Round {
-            cause: Cause {
-                number: 0,
-                returned: 0,
-            },
-            ended: true,
-            pairs: pairs,
-            rounds: rounds,
-            state: state,
-        },
-        RoundReply::Refused(refusal) => Round {
-            cause: cause_of(refusal),
-            ended: true,
-            pairs: 0,
-            rounds: 0,
-            state: state,
-        },
-    }
-}
+ghost use Rattle.exported.specs.ExportedWatching.{ExportedStart, ExportedRound};
 
 // Starts a search on a sheet of the window form.
 #[no_mangle]

@@ -1,7 +1,7 @@
 -- `joshkamber_choose_timetable` meets its contract: it tells the library's reply. Assumes nothing.
 use borrow.Author.Needs.{needs}
 use Rattle.model.specs.Memory.{timetableSheet}
-use Rattle.capi.specs.ExportedPlanningLaws.{exported-choice}
+use Rattle.exported.specs.ExportedPlanningLaws.{exported-choice}
 use Rattle.capi.proofs.joshkamber_choose_timetable.Statement.{statement}
 use Rattle.capi.proofs.joshkamber_choose_timetable.Tie as tie
 

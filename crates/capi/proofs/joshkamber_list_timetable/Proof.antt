@@ -1,7 +1,7 @@
 -- `joshkamber_list_timetable` meets its contract: it tells the library's reply. Assumes nothing.
 use borrow.Author.Needs.{needs}
 use Rattle.model.specs.Memory.{timetableSheet}
-use Rattle.capi.specs.ExportedPlanningLaws.{exported-listing}
+use Rattle.exported.specs.ExportedPlanningLaws.{exported-listing}
 use Rattle.capi.proofs.joshkamber_list_timetable.Statement.{statement}
 use Rattle.capi.proofs.joshkamber_list_timetable.Tie as tie
 

@@ -1,7 +1,7 @@
 -- `joshkamber_list_windows` meets its contract: it tells the library's reply. Assumes nothing.
 use borrow.Author.Needs.{needs}
 use Rattle.model.specs.Memory.{windowSheet}
-use Rattle.capi.specs.ExportedPlanningLaws.{exported-listing}
+use Rattle.exported.specs.ExportedPlanningLaws.{exported-listing}
 use Rattle.capi.proofs.joshkamber_list_windows.Statement.{statement}
 use Rattle.capi.proofs.joshkamber_list_windows.Tie as tie
 

@@ -1,8 +1,8 @@
 -- `joshkamber_read_timetable` meets its contract: it tells what the reading call says. Assumes nothing.
 use borrow.Author.Needs.{needs}
 use Rattle.model.specs.Memory.{timetableSheet}
-use Rattle.capi.specs.Exported.{timetableRead}
-use Rattle.capi.specs.ExportedLaws.{exported-reading}
+use Rattle.exported.specs.Exported.{timetableRead}
+use Rattle.exported.specs.ExportedLaws.{exported-reading}
 use Rattle.capi.proofs.joshkamber_read_timetable.Statement.{statement}
 use Rattle.capi.proofs.joshkamber_read_timetable.Tie as tie
 

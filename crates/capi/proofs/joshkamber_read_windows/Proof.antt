@@ -1,8 +1,8 @@
 -- `joshkamber_read_windows` meets its contract: it tells what the reading call says. Assumes nothing.
 use borrow.Author.Needs.{needs}
 use Rattle.model.specs.Memory.{windowSheet}
-use Rattle.capi.specs.Exported.{windowsRead}
-use Rattle.capi.specs.ExportedLaws.{exported-reading}
+use Rattle.exported.specs.Exported.{windowsRead}
+use Rattle.exported.specs.ExportedLaws.{exported-reading}
 use Rattle.capi.proofs.joshkamber_read_windows.Statement.{statement}
 use Rattle.capi.proofs.joshkamber_read_windows.Tie as tie
 

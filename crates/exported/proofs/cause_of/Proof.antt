@@ -1,8 +1,8 @@
 -- `cause_of` meets its contract: the model's calls give the two numbers. Assumes nothing.
 use borrow.Author.Needs.{needs}
-use Rattle.capi.specs.ExportedLaws.{cause-is}
-use Rattle.capi.proofs.cause_of.Statement.{statement}
-use Rattle.capi.proofs.cause_of.Tie as tie
+use Rattle.exported.specs.ExportedLaws.{cause-is}
+use Rattle.exported.proofs.cause_of.Statement.{statement}
+use Rattle.exported.proofs.cause_of.Tie as tie
 
 pub cause-of-spec : {M : Type 1} → statement M
 cause-of-spec =

@@ -1,7 +1,7 @@
 -- `listing_of` meets its contract: the reply's numbers, or its cause. Assumes nothing.
 use borrow.Author.Needs.{needs}
-use Rattle.capi.proofs.listing_of.Statement.{statement}
-use Rattle.capi.proofs.listing_of.Tie as tie
+use Rattle.exported.proofs.listing_of.Statement.{statement}
+use Rattle.exported.proofs.listing_of.Tie as tie
 
 pub listing-of-spec : {M : Type 1} → statement M
 listing-of-spec =

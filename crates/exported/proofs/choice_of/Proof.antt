@@ -2,8 +2,8 @@
 use borrow.Author.Needs.{needs}
 use mir.Facts.{toZ-ofZ}
 use mir.Syntax.{w64}
-use Rattle.capi.proofs.choice_of.Statement.{statement}
-use Rattle.capi.proofs.choice_of.Tie as tie
+use Rattle.exported.proofs.choice_of.Statement.{statement}
+use Rattle.exported.proofs.choice_of.Tie as tie
 
 pub choice-of-spec : {M : Type 1} → statement M
 choice-of-spec =

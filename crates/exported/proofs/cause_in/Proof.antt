@@ -1,7 +1,7 @@
 -- `cause_in` meets its contract: what is granted has no cause. Assumes nothing.
 use borrow.Author.Needs.{needs}
-use Rattle.capi.proofs.cause_in.Statement.{statement}
-use Rattle.capi.proofs.cause_in.Tie as tie
+use Rattle.exported.proofs.cause_in.Statement.{statement}
+use Rattle.exported.proofs.cause_in.Tie as tie
 
 pub cause-in-spec : {M : Type 1} → statement M
 cause-in-spec =

@@ -15,10 +15,10 @@ use Rattle.front.specs.Front.{Front}
 use Rattle.planner.specs.Listing.{ListingCall}
 use Rattle.planner.specs.Choosing.{Gives, ChoosingCall}
 use Rattle.planner.specs.InAreas.{pairs-in}
-use Rattle.capi.specs.ExportedLaws.{numbered}
-use Rattle.capi.specs.ExportedPlanning.{listingOf, ExportedListing, choiceOf, pair-given, ExportedChoice}
-use Rattle.capi.specs.declared.Listing.{Listing}
-use Rattle.capi.specs.declared.Choice.{Choice}
+use Rattle.exported.specs.ExportedLaws.{numbered}
+use Rattle.exported.specs.ExportedPlanning.{listingOf, ExportedListing, choiceOf, pair-given, ExportedChoice}
+use Rattle.exported.specs.declared.Listing.{Listing}
+use Rattle.exported.specs.declared.Choice.{Choice}
 
 -- the cause of a reply
 list-cause : (x : ListReply) → listingOf x .cause ≡ record { number = numberOf (of-listing x); returned = returnedOf (of-listing x) }

@@ -14,9 +14,9 @@ use Rattle.model.specs.declared.Admission.the-variants.{Granted, Refused}
 use Rattle.sheet.specs.Sheets.{windowReading, timetableReading}
 use Rattle.sheet.specs.Reading.{linesIn}
 use Rattle.sheet.specs.ReadingCall.{tells-line, FewPlaces}
-use Rattle.capi.specs.declared.Cause.{Cause}
-use Rattle.capi.specs.declared.WindowsRead.{WindowsRead}
-use Rattle.capi.specs.declared.TimetableRead.{TimetableRead}
+use Rattle.exported.specs.declared.Cause.{Cause}
+use Rattle.exported.specs.declared.WindowsRead.{WindowsRead}
+use Rattle.exported.specs.declared.TimetableRead.{TimetableRead}
 
 -- 0 and 0 where nothing is refused
 abbrev pub no-cause : Cause

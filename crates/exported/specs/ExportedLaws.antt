@@ -12,8 +12,8 @@ use Rattle.model.specs.declared.Refusal.the-variants.{Malformed, OutOfRange, Ki
 use Rattle.model.specs.declared.Refusal.the-variants.{NoSchedule, RoundLimit, AreaTooShort, WishTooEarly, WrongRows, RuleBroken}
 use Rattle.fields.specs.declared.NamePlaces.{NamePlaces}
 use Rattle.sheet.specs.ReadingCall.{ReadingCall}
-use Rattle.capi.specs.Exported.{causeOf, causeIn, ExportedReading}
-use Rattle.capi.specs.declared.Cause.{Cause}
+use Rattle.exported.specs.Exported.{causeOf, causeIn, ExportedReading}
+use Rattle.exported.specs.declared.Cause.{Cause}
 
 -- every refusal has a number
 pub numbered : (r : Refusal) → 1 ≤ number r

@@ -22,9 +22,9 @@ use Rattle.front.specs.Front.{Front, ChosenListed}
 use Rattle.planner.specs.Listing.{ListingCall}
 use Rattle.planner.specs.Choosing.{ChoosingCall}
 use Rattle.planner.specs.InAreas.{pairs-in, plan-in}
-use Rattle.capi.specs.Exported.{no-cause, causeOf}
-use Rattle.capi.specs.declared.Listing.{Listing}
-use Rattle.capi.specs.declared.Choice.{Choice}
+use Rattle.exported.specs.Exported.{no-cause, causeOf}
+use Rattle.exported.specs.declared.Listing.{Listing}
+use Rattle.exported.specs.declared.Choice.{Choice}
 
 -- ---- listing
 
