@@ -92,7 +92,7 @@ c_test() {
 # every stored hard sheet, full or short, is timed, in listing, choosing, checking and round by round; both planners agree on pairs and rounds, and ours
 # takes at most 1.5 times as long
 benchmark() {
-    (cd binding && cargo run -q --release --offline --bin bench -- 2) >"$work/bench" 2>&1
+    (cd binding && cargo run -q --release --offline --bin bench -- 3) >"$work/bench" 2>&1
     status=$?
     cat "$work/bench"
     [ "$status" -eq 0 ] && grep -q ' 5[0-9]*-short-' "$work/bench" && tail -n 1 "$work/bench" | grep -q '^bench: .* of [1-9][0-9]* ratios at most 1.5'

@@ -1,13 +1,12 @@
 //! Times the product against the independent planner on sheet files, in one run: `bench [repeats] [FILE...]`; without files, on the stored hard sheets.
 //!
-//! Both list the pairs of the same sheet in memory, choose a plan by the last listed arrival and by the first one (timed once where that is the same),
-//! check the plan of the last pair, and watch a search, which is made by single round calls, with areas lent once and not cleared between calls. The
-//! product's choosing may stop at the first pair that is later than the wish; the independent planner makes every round and, but for watching, keeps
-//! the plan of every listed pair. The product takes sheet and state by value and tests them in each round call; the independent planner keeps its
-//! search between them. Both are built for release and for the same processors: the product by its toolchain for plain x86-64, this program for Rust's
-//! default target, which is the same. Below the table stands what checking takes beyond listing, and a round call beyond a round of listing. Without
-//! files, a second table has the time per round of listing against n and q. The last line says how many ratios are at most 1.5; the exit status is 0
-//! only if all are, and choosing stops early.
+//! Both list the pairs of the same sheet in memory, choose a plan by the last listed arrival and by the first one, check the plan of the last pair, and
+//! watch a search, which is made by single round calls, with areas lent once and not cleared between calls. The product's choosing may stop at the first
+//! pair that is later than the wish; the independent planner makes every round and, but for watching, keeps the plan of every listed pair. The product
+//! takes sheet and state by value and tests them in each round call; the independent planner keeps its search between them. Both are built for release
+//! and for the same processors: the product by its toolchain for plain x86-64, this program for Rust's default target, which is the same. Below the
+//! table stands what checking takes beyond listing, and a round call beyond a round of listing. Without files, a second table has the time per round of
+//! listing against n and q. The last line says how many ratios are at most 1.5; the exit status is 0 only if all are, and choosing stops early.
 
 mod timing;
 
@@ -100,13 +99,18 @@ fn print_comparison(name: &str, text: &[u8], repeats: usize) -> Option<Figures> 
     let (entries, pairs) = (bench.entries(), bench.entries().len());
     print!("{n:>4} {q:>3} {pairs:>6} {:>6}", bench.rounds());
     let (first, last) = (&entries[0], &entries[pairs - 1]);
-    let by_last = bench.time_choosing(last.pair);
-    let by_first = if pairs == 1 { by_last } else { bench.time_choosing(first.pair) };
-    let calls = [bench.time_listing(), by_last, by_first, bench.time_checking(last), bench.time_watching()];
+    let calls = [
+        bench.time_listing(),
+        bench.time_choosing(last.pair),
+        bench.time_choosing(first.pair),
+        bench.time_checking(last),
+        bench.time_watching(),
+    ];
     for timed in &calls {
         print!(" {:>7.1} {:>8.1} {:>5.3}", timed.product, timed.independent, timed.ratio());
     }
     println!("  {name}");
+    let [_, by_last, by_first, ..] = &calls;
     let stops_early = 2.0 * by_first.product <= by_last.product;
     assert!(stops_early || pairs < MANY_PAIRS, "choosing by the first arrival goes on: {name}");
     Some(Figures {

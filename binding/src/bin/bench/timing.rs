@@ -16,7 +16,6 @@ use std::time::{Duration, Instant};
 const BATCH: Duration = Duration::from_millis(1);
 
 /// Microseconds a call.
-#[derive(Clone, Copy)]
 pub struct Timed {
     pub product: f64,
     pub independent: f64,
@@ -218,8 +217,7 @@ fn micros<R>(mut call: impl FnMut() -> R) -> (f64, R) {
     }
 }
 
-/// Of two values the lesser one.
 fn median(mut values: Vec<f64>) -> f64 {
     values.sort_by(f64::total_cmp);
-    values[(values.len() - 1) / 2]
+    values[values.len() / 2]
 }
