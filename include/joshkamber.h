@@ -26,7 +26,7 @@ enum {
 /* Why an input is refused; number 0: it is not.
  *
  *    1  a line of no known form, or no final byte 10      8  there is no schedule
- *    2  a value outside its range                         9  round limit
+ *    2  a value outside its range                         9  not used
  *    3  a kind of line earlier than the line above       10  a lent area is too short
  *    4  one more of a kind than allowed                  11  the wished arrival is before the first listed one
  *    5  a kind is missing                                12  a plan has not one departure for each train and one row for each order
@@ -84,6 +84,12 @@ typedef struct {
     size_t start;
     size_t length;
 } joshkamber_name_place;
+
+/* What a bound call gives: `most`, so that no search of the sheet lists more pairs and none makes more rounds; or the cause beside 0. */
+typedef struct {
+    joshkamber_cause cause;
+    size_t most;
+} joshkamber_bound;
 
 /* What listing gives: how many pairs are listed and how many rounds were made, or the cause beside 0 and 0. */
 typedef struct {
@@ -152,18 +158,28 @@ joshkamber_timetable_read joshkamber_read_timetable(const uint8_t *text, size_t 
 joshkamber_name_place joshkamber_name_in_windows(const uint8_t *text, size_t length, size_t order);
 joshkamber_name_place joshkamber_name_in_timetable(const uint8_t *text, size_t length, size_t order);
 
-/* Lists the pairs of a sheet of n orders and q trains, and tests the sheet first: refusals 2 and 4 to 10. The lent area, with its length in
+/* How long a pairs area must be, known before any round is made: for n orders and q trains
+ *
+ *    most = 1 + min(n, k_1) + min(n, k_1 + k_2) + .. + min(n, k_1 + .. + k_(q-1))
+ *
+ * where k_i is the capacity of train i. No search of the sheet lists more pairs, and none makes more rounds; there are sheets that reach it. It is
+ * never more than 5985. Wherever a pairs area is lent below, 2 most elements are enough, and with one less the call refuses with 10. Tests the sheet
+ * first: refusals 2 and 4 to 7. */
+joshkamber_bound joshkamber_bound_windows(joshkamber_window_sheet sheet);
+joshkamber_bound joshkamber_bound_timetable(joshkamber_timetable_sheet sheet);
+
+/* Lists the pairs of a sheet of n orders and q trains, and tests the sheet first: refusals 2, 4 to 8 and 10. The lent area, with its length in
  * elements:
  *
- *    pairs            at least 2 n q    last arrival and worst weighted lateness of each listed pair, by rising arrival
+ *    pairs            at least 2 most   last arrival and worst weighted lateness of each listed pair, by rising arrival
  *
- * Only its front is written (2 elements for each listed pair), and nothing where the call refuses. */
+ * where most is what the bound call gives. Only its front is written (2 elements for each listed pair), and nothing where the call refuses. */
 joshkamber_listing joshkamber_list_windows(joshkamber_window_sheet sheet, int64_t *pairs, size_t pairs_length);
 joshkamber_listing joshkamber_list_timetable(joshkamber_timetable_sheet sheet, int64_t *pairs, size_t pairs_length);
 
 /* Chooses the last listed pair that is not later than the wished arrival, and gives its plan; the wish may be any number. Where it is the arrival
  * of a listed pair, that very pair is chosen. No schedule that arrives by the wish has a smaller worst lateness. Tests as listing does, and last
- * that the first listed pair is not later than the wish: refusals 2 and 4 to 11. The lent areas, with their lengths in elements:
+ * that the first listed pair is not later than the wish: refusals 2, 4 to 8, 10 and 11. The lent areas, with their lengths in elements:
  *
  *    train_of_order   at least n        the train, from 1, of each order
  *    times            at least 3 q      departure, arrival and window of each train, of an empty one too
@@ -191,7 +207,7 @@ joshkamber_choice joshkamber_choose_timetable(joshkamber_timetable_sheet sheet, 
  *
  * So the refusals are 2, 4 to 7, 10, 12 and 13. There is no 8, since a plan that passes is a schedule.
  *
- * After a yes the pairs area (at least 2 n q elements) is as listing leaves it. If the plan's pair is not listed, a listed one is at least as good
+ * After a yes the pairs area (at least 2 most elements) is as listing leaves it. If the plan's pair is not listed, a listed one is at least as good
  * on both counts and better on one, and choosing by its arrival gives its plan. Nothing is written where the call refuses. */
 joshkamber_check joshkamber_check_windows(joshkamber_window_sheet sheet, const uint32_t *departures, size_t departures_length,
                                           const joshkamber_row *rows, size_t rows_length, int64_t *pairs, size_t pairs_length);
@@ -207,7 +223,7 @@ joshkamber_check joshkamber_check_timetable(joshkamber_timetable_sheet sheet, co
  *
  * The areas, for n orders and q trains, with their lengths in elements:
  *
- *    pairs            at least 2 n q    last arrival and worst weighted lateness of each pair recorded so far, by rising arrival
+ *    pairs            at least 2 most   last arrival and worst weighted lateness of each pair recorded so far, by rising arrival
  *    train_of_order   at least n        the train, from 1, of each order in the plan of the pair recorded last
  *    times            at least 3 q      departure, arrival and window of each train in that plan
  *
@@ -229,8 +245,8 @@ joshkamber_start joshkamber_start_timetable(joshkamber_timetable_sheet sheet, co
  *    `ended`, cause number 0      it has ended, with `pairs` and `rounds` as listing gives them; the areas hold the list and the last pair's plan
  *    `ended`, cause number 8      there is no schedule: the first round says so, and the areas are as they were lent
  *
- * The call that makes the last round says that the search has ended, within n q calls. A further call changes nothing and says the end again. There
- * is no other refusal: 9 is never met.
+ * The call that makes the last round says that the search has ended, within as many calls as the bound call gives. A further call changes nothing
+ * and says the end again. There is no other refusal.
  *
  * If state, sheet and areas are not those of one search, the call returns all the same. It tells by a sheet or an area that fails the tests of a
  * start, by counts that are none of a search on this sheet and, while `state.ended` is 0, by orders that are not ranked as on this sheet and by

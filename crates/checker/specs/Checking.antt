@@ -58,7 +58,7 @@ pub record CheckingCall (s : Sheet) (departure : List ℕ) (rows : List Row) (r 
   -- "13, a schedule rule broken", where 12 is not given
   pub thirteen : Admitted s → ListRoom s found → RowsFit s departure rows
       → numberOf (of-check r) ≡ 13 ↔ (¬ Schedule s (trains-told (s .orders) rows) departure)
-  -- of such a sheet nothing else is told: 8, 9 and 11 never
+  -- of such a sheet nothing else is told: 8 and 11 never
   pub answered : Admitted s → ListRoom s found → SaysYes r ⊎ ((numberOf (of-check r) ≡ 12) ⊎ (numberOf (of-check r) ≡ 13))
   -- document 02, No. 5: "refusal 7 is given only if the capacities add up to less than n"
   pub seven : numberOf (of-check r) ≡ 7 → places (s .capacity) (s .trains) < s .orders

@@ -4,7 +4,6 @@ use mathlib.Core.Path.{_≡_, refl, ap, _∙_}
 use mathlib.Core.List.{List}
 use Prim.Native.Nat.{ℕ, _*_}
 use native.Mathlib.Omega.{arith}
-use native.Mathlib.Nat.{mul-le-mul}
 use lib.IntN.{ℤ}
 use lib.ListN.{length, take, drop}
 use lib.Seq.{take-at}
@@ -19,6 +18,7 @@ use Rattle.model.specs.declared.ListReply.the-variants.{Listed, Refused}
 use Rattle.rounds.specs.Recording.{Entry}
 use Rattle.rounds.specs.Answers.{Answer, refused, given, Listing, list, last-arrival-in}
 use Rattle.rounds.specs.Areas.{PlanAreas, ListRoom, list-reply, pair-numbers, plan-times, plan-left}
+use Rattle.rounds.specs.BoundLaws.{bound-most}
 use Rattle.rounds.specs.AreaLaws.{pair-numbers-length, plan-times-length}
 use Rattle.rounds.specs.EntryPlan.{EntryPlan, EntryBooked}
 use Rattle.rounds.specs.ChosenLaws.{chosen-so}
@@ -86,7 +86,7 @@ module _ (text : List ℕ) (names : NamePlaces) (s : Sheet) where
     as-before a p = go (p .reply) (p .call) (p .printed)
       where
         room : ListRoom s (p .lent)
-        room = omega (arith, p .pairs-lent, mul-le-mul (a .few .orders) (a .few .trains))
+        room = omega (arith, p .pairs-lent, bound-most s a)
 
         refusal : (q : Refusal) (x : Answer Listing) → Refused q ≡ list-reply x → refusal-line q ≡ answer-bytes text names s x
         refusal q (refused r) e = let same : q ≡ r = cc in ap refusal-line same

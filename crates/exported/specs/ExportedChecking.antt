@@ -47,7 +47,7 @@ pub record ExportedCheck (s : Sheet) (departure : List ℕ) (rows : List Row) (r
   pub twelve : Admitted s → ListRoom s found → r .cause .number ≡ 12 ↔ (¬ RowsFit s departure rows)
   pub thirteen : Admitted s → ListRoom s found → RowsFit s departure rows
       → r .cause .number ≡ 13 ↔ (¬ Schedule s (trains-told (s .orders) rows) departure)
-  -- and nothing else of it: 8, 9 and 11 never
+  -- and nothing else of it: 8 and 11 never
   pub answered : Admitted s → ListRoom s found → (r .cause .number ≡ 0) ⊎ ((r .cause .number ≡ 12) ⊎ (r .cause .number ≡ 13))
   -- document 02, No. 5: "refusal 7 is given only if the capacities add up to less than n"
   pub seven : r .cause .number ≡ 7 → places (s .capacity) (s .trains) < s .orders

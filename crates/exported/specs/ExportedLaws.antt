@@ -9,7 +9,7 @@ use Rattle.model.specs.declared.Admission.{Admission}
 use Rattle.model.specs.declared.Admission.the-variants.{Granted, Refused}
 use Rattle.model.specs.declared.Refusal.{Refusal}
 use Rattle.model.specs.declared.Refusal.the-variants.{Malformed, OutOfRange, KindTooEarly, TooMany, KindMissing, OutOfOrder, TooFewPlaces}
-use Rattle.model.specs.declared.Refusal.the-variants.{NoSchedule, RoundLimit, AreaTooShort, WishTooEarly, WrongRows, RuleBroken}
+use Rattle.model.specs.declared.Refusal.the-variants.{NoSchedule, AreaTooShort, WishTooEarly, WrongRows, RuleBroken}
 use Rattle.fields.specs.declared.NamePlaces.{NamePlaces}
 use Rattle.sheet.specs.ReadingCall.{ReadingCall}
 use Rattle.exported.specs.Exported.{causeOf, causeIn, ExportedReading}
@@ -25,7 +25,6 @@ numbered KindMissing = omega arith
 numbered (OutOfOrder line) = omega arith
 numbered TooFewPlaces = omega arith
 numbered NoSchedule = omega arith
-numbered RoundLimit = omega arith
 numbered AreaTooShort = omega arith
 numbered WishTooEarly = omega arith
 numbered WrongRows = omega arith

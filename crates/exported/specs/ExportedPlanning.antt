@@ -17,6 +17,7 @@ use Rattle.model.specs.declared.ChoiceReply.{ChoiceReply}
 use Rattle.model.specs.declared.ChoiceReply.the-variants as choosing
 use Rattle.rounds.specs.EntryPlan.{EntryPlan}
 use Rattle.rounds.specs.ChosenPair.{Best, TooEarly}
+use Rattle.rounds.specs.RoundsBound.{rounds-bound}
 use Rattle.rounds.specs.Areas.{ListRoom, list-to, list-reply, PlanAreas, PlanRoom, choose-to, choice-reply}
 use Rattle.front.specs.Front.{Front, ChosenListed}
 use Rattle.planner.specs.Listing.{ListingCall}
@@ -38,8 +39,12 @@ pub record ExportedListing (s : Sheet) (r : Listing) (left found : List ℤ) : T
   pub call : ListingCall s (list-reply (list-to s found)) left found
   -- demand 3 of an accepted call
   pub front : r .cause .number ≡ 0 → Front s (pairs-in (r .pairs) left)
+  -- document 02, No. 6: "no search makes more rounds than that, and lists no more pairs"
+  pub within : (r .pairs ≤ rounds-bound s) × (r .rounds ≤ rounds-bound s)
   -- and of a sheet that passes 4, 5, 2, 6, 7 and 10
   pub eight : Admitted s → ListRoom s found → r .cause .number ≡ 8 ↔ ((train departure : List ℕ) → ¬ Schedule s train departure)
+  -- "Otherwise" it lists: "the best-list guarantee loses that premise"
+  pub lists : Admitted s → ListRoom s found → ((train : List ℕ) × (departure : List ℕ) × Schedule s train departure) → r .cause .number ≡ 0
   -- document 02, No. 5: "refusal 7 is given only if the capacities add up to less than n"
   pub seven : r .cause .number ≡ 7 → places (s .capacity) (s .trains) < s .orders
   -- "always with 0 returned and every lent area as found"

@@ -1,7 +1,7 @@
 -- The contracts of listing and choosing, told in numbers. Assumes nothing.
 use mathlib.Core.Path.{_≡_, refl, _∙_, ap, subst}
 use mathlib.Core.List.{List}
-use Prim.Native.Nat.{ℕ}
+use Prim.Native.Nat.{ℕ, _≤_}
 use native.Mathlib.Omega.{arith}
 use lib.IntN.{ℤ}
 use Rattle.model.specs.Sheet.{Sheet}
@@ -10,6 +10,7 @@ use Rattle.model.specs.declared.ListReply.{ListReply}
 use Rattle.model.specs.declared.ListReply.the-variants as listing
 use Rattle.model.specs.declared.ChoiceReply.{ChoiceReply}
 use Rattle.model.specs.declared.ChoiceReply.the-variants as choosing
+use Rattle.rounds.specs.RoundsBound.{rounds-bound}
 use Rattle.rounds.specs.Areas.{PlanAreas}
 use Rattle.front.specs.Front.{Front}
 use Rattle.planner.specs.Listing.{ListingCall}
@@ -36,6 +37,10 @@ module _ (s : Sheet) (left found : List ℤ) where
   accepted-list (listing.Listed pairs rounds) call e = call .front pairs rounds refl
   accepted-list (listing.Refused r) call e = absurd (omega (arith, numbered r))
 
+  few-told : (x : ListReply) → ListingCall s x left found → (listingOf x .pairs ≤ rounds-bound s) × (listingOf x .rounds ≤ rounds-bound s)
+  few-told (listing.Listed pairs rounds) call = call .within pairs rounds refl
+  few-told (listing.Refused r) call = (omega arith, omega arith)
+
   pub exported-listing : (x : ListReply) (r : Listing) → ListingCall s x left found → r ≡ listingOf x → ExportedListing s r left found
   exported-listing x r call e =
       let cause = ap (λ (p : Listing). p .cause) e ∙ list-cause x in
@@ -44,7 +49,9 @@ module _ (s : Sheet) (left found : List ℤ) where
         equal = e ∙ ap listingOf replied;
         call = subst (λ (y : ListReply). ListingCall s y left found) replied call;
         front = λ u. rw e (accepted-list x call (rw cause at u));
+        within = rw e (few-told x call);
         eight = rw cause (call .eight);
+        lists = λ a room some. let (pairs, rounds, is) = call .lists a room some in rw (cause, is) refl;
         seven = rw cause (call .seven);
         returns-zero = rw cause (call .returns-zero);
         as-found = rw cause (call .as-found);

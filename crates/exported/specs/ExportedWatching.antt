@@ -31,10 +31,9 @@ pub record ExportedStart (s : Sheet) (lent : SearchAreas) (r : Start) : Type 0 w
   pub call : StartCall s lent (record { admission = start-to s lent; state = r .state })
   -- an accepted one gives the state before the first round
   pub begins : r .cause .number ≡ 0 → LeftBy s lent started (r .state) lent
-  -- a refused one gives none, and neither 8 nor 9
+  -- a refused one gives none, and never 8
   pub beside : 1 ≤ r .cause .number → r .state ≡ no-state
   pub no-eight : ¬ (r .cause .number ≡ 8)
-  pub no-nine : ¬ (r .cause .number ≡ 9)
   pub returns-zero : r .cause .returned ≡ 0
   -- document 02, No. 5: "refusal 7 is given only if the capacities add up to less than n"
   pub seven : r .cause .number ≡ 7 → places (s .capacity) (s .trains) < s .orders
@@ -56,7 +55,7 @@ pub record ExportedRound (s : Sheet) (state : State) (r : Round) (left found : S
   pub call : RoundCall s state moved left found
   -- whatever calls have left the state and the areas: they are left as after one round call more, and the numbers say that it goes on, or the end
   pub moves : (lent : SearchAreas) (calls : Calls) → LeftBy s lent calls state found → LeftBy s lent (then-round calls) (r .state) left
-  pub says : (lent : SearchAreas) (calls : Calls) → LeftBy s lent calls state found → r ≡ round-told (r .state) (said s (search-by s (then-round calls)))
+  pub says : (lent : SearchAreas) (calls : Calls) → LeftBy s lent calls state found → r ≡ round-told (r .state) (said (search-by s (then-round calls)))
   -- whatever the state, the sheet and the areas are: "A further round after the end changes nothing"
   pub after-the-end : ¬ (state .ended ≡ 0) → (r .state ≡ state) × (left ≡ found)
   -- what is no state of a search here is told as ended with no pair after no round, and nothing is changed

@@ -42,7 +42,6 @@ exported-start s lent x r call e =
       begins = λ u. rw e (call .begins (accepted (x .admission) (rw cause at u)));
       beside = λ l. rw e (call .beside (rw cause at l));
       no-eight = rw cause (call .no-eight);
-      no-nine = rw cause (call .no-nine);
       returns-zero = rw cause (call .returns-zero);
       seven = rw cause (call .seven);
     }

@@ -5,7 +5,7 @@ use mathlib.Core.Path.{_≡_, ap, _∙_}
 use mathlib.Core.Logic.{_↔_}
 use mathlib.Core.Bool.{true}
 use mathlib.Core.List.{List}
-use Prim.Native.Nat.{ℕ, _+_, _*_, _≤_, _<_}
+use Prim.Native.Nat.{ℕ, _+_, _≤_, _<_}
 use lib.IntN.{ℤ}
 use lib.ListN.{length}
 use lib.Signed.{_<ℤ_}
@@ -15,11 +15,12 @@ use Rattle.model.specs.Sheet.{Sheet, places}
 use Rattle.model.specs.Schedule.{Schedule}
 use Rattle.model.specs.Arrival.{arrival}
 use Rattle.model.specs.Lateness.{Pair, pairOf, AtLeastAsGood, pair-at}
+use Rattle.model.specs.Limits.{most-pairs}
 use Rattle.model.specs.Foreign.{RowsFit, trains-told, RowsTell, rows-of}
 use Rattle.model.specs.ShortTrains.{FullSchedule}
 use Rattle.model.specs.Admission.{Admitted}
 use Rattle.model.specs.declared.Row.{Row}
-use Rattle.model.specs.declared.Refusal.the-variants.{NoSchedule, RoundLimit, WishTooEarly, WrongRows, RuleBroken}
+use Rattle.model.specs.declared.Refusal.the-variants.{NoSchedule, WishTooEarly, WrongRows, RuleBroken}
 use Rattle.model.specs.declared.RoundReply.the-variants.{GoesOn}
 use Rattle.rounds.specs.Loading.{free, take-orders}
 use Rattle.rounds.specs.LoadingLaws.{decides-free, takes-all}
@@ -27,25 +28,25 @@ use Rattle.rounds.specs.Timing.{stopped, timed}
 use Rattle.rounds.specs.Recording.{Entry, listed, entry-at, last-entry, recorded-arrival}
 use Rattle.rounds.specs.EntryPlan.{EntryPlan, EntryBooked, EntryEmptyTrains}
 use Rattle.rounds.specs.ChosenPair.{LastInTime, Best, TooEarly, Unbeaten}
-use Rattle.rounds.specs.Rounds.{going, ended, recorded-in, start, loading, times, first-timing, rounds, recorded-after, search}
+use Rattle.rounds.specs.Rounds.{going, ended, rounds-in, recorded-in, start, loading, times, first-timing, rounds, recorded-after, search}
 use Rattle.rounds.specs.RoundsBound.{rounds-bound}
 use Rattle.rounds.specs.Answers.{refused, given, Listing, list, last-arrival-in, last-listed, choose}
 use Rattle.rounds.specs.Areas.{list-left, plan-left}
 use Rattle.rounds.specs.Checking.{Verdict, check}
 use Rattle.rounds.specs.ByRound.{SearchAreas, Calls, then-round, then-look, round-calls, Then, search-by, seen, end-of, said, areas-by, Final}
-use Rattle.rounds.specs.SumLaws.{within-limit}
 use Rattle.rounds.specs.PairListLaws.{apart}
 use Rattle.rounds.specs.ShortTrainLaws.{as-exactly}
 use Rattle.rounds.specs.OneRoundLaws.{every-order-loaded}
-use Rattle.rounds.specs.InvariantLaws.{entry-plans, entry-booked, entry-empty-trains, reached, earliest-plan}
+use Rattle.rounds.specs.InvariantLaws.{entry-plans, entry-booked, entry-empty-trains, reached, earliest-plan, search-at-end}
 use Rattle.rounds.specs.ArrivalLaws as arrivals
-use Rattle.rounds.specs.AnswerLaws.{listed-so, eight-means, eight-given, eight-stops, nine-never, ends-within}
-use Rattle.rounds.specs.ChosenLaws.{choice-best, chosen-so, eleven-chosen, eleven-before-first, nine-never-chosen}
+use Rattle.rounds.specs.AnswerLaws.{listed-so, listed-otherwise, eight-means, eight-given, eight-stops, ends-within}
+use Rattle.rounds.specs.ChosenLaws.{choice-best, chosen-so, eleven-chosen, eleven-before-first}
 use Rattle.rounds.specs.ChoosingLaws.{booked-chosen, empty-chosen, eight-chosen, eight-chosen-stops, listed-chosen, last-recorded-chosen}
 use Rattle.rounds.specs.CheckingLaws.{yes-so, yes-unbeaten, yes-given, twelve-given, thirteen-given, own-plan, own-rows}
-use Rattle.rounds.specs.ByRoundLaws.{seen-is, look-leaves, no-more-rounds, ends-here, end-is, said-at-end, pairs-at-end, plan-at-end}
+use Rattle.rounds.specs.ByRoundLaws.{seen-is, look-leaves, end-is, said-at-end, pairs-at-end, plan-at-end}
 use Rattle.rounds.specs.ByRoundLaws as by-round
 use Rattle.rounds.specs.FinalLaws.{final}
+use Rattle.rounds.specs.BoundLaws as bounds
 
 -- ---- demand 3: the listed pairs
 
@@ -69,11 +70,16 @@ pub record Front (s : Sheet) (pairs : List Pair) : Type 0 where
   -- "the pairs in order of arrival"
   pub by-arrival : (i k : ℕ) → i < k → k < length pairs → pair-at pairs i .last < pair-at pairs k .last
 
--- If the rounds aren't cut off by their limit (that answer is `refused RoundLimit`, not `given`), they list the front.
+-- what is listed is the front
 pub listed-is-front : (s : Sheet) → Admitted s → {l : Listing} → list s ≡ given l → Front s (l .pairs)
 listed-is-front s a {l} e =
     let h = listed-so s a e in
     record { belongs = h .belong; covers = h .cover; distinct = apart (l .pairs) (h .rise); by-arrival = λ i k u v. h .rise i k u v .earlier }
+
+-- "Otherwise": where there is a schedule the front is listed, and nothing stands before it (document 02, No. 6: "the best-list guarantee loses that premise")
+pub front-is-listed : (s : Sheet) → Admitted s → (train departure : List ℕ) → Schedule s train departure
+    → (l : Listing) × (list s ≡ given l) × Front s (l .pairs)
+front-is-listed s a train departure h = let (l, e) = listed-otherwise s a train departure h in (l, e, listed-is-front s a e)
 
 -- ---- what is recorded
 
@@ -194,8 +200,8 @@ own-rows-tell s a wish e u = own-rows s a wish e u
 -- ---- document 02, No. 4: a look at the list while the search runs
 
 -- "For every list of these calls after an accepted start": reading "gives the list that document 01's rounds made so far have recorded"
-pub look-gives : (s : Sheet) → Admitted s → (calls : Calls) → seen s calls ≡ listed (recorded-after s (round-calls calls))
-look-gives s a calls = seen-is s a calls
+pub look-gives : (s : Sheet) (calls : Calls) → seen s calls ≡ listed (recorded-after s (round-calls calls))
+look-gives s calls = seen-is s calls
 
 -- "reading changes nothing"
 pub look-changes-nothing : (s : Sheet) (calls : Calls) → search-by s (then-look calls) ≡ search-by s calls
@@ -206,22 +212,22 @@ pub look-final : (s : Sheet) → Admitted s → (calls later : Calls) → Then c
 look-final s a calls later t = final s a calls later t
 
 -- "A further round after the end changes nothing", so that it says the same again
-pub further-round : (s : Sheet) (calls : Calls) → ¬ (said s (search-by s calls) ≡ GoesOn) → search-by s (then-round calls) ≡ search-by s calls
-further-round s calls e = no-more-rounds s calls (ends-here s (search-by s calls) e)
+pub further-round : (s : Sheet) (calls : Calls) → ¬ (said (search-by s calls) ≡ GoesOn) → search-by s (then-round calls) ≡ search-by s calls
+further-round s calls e = by-round.no-more-rounds s calls _ _ (by-round.ended-so (search-by s calls) e)
 
--- "For every admitted sheet the end comes within n × q round calls"
-pub end-comes : (s : Sheet) → Admitted s → (calls : Calls) → s .orders * s .trains ≤ round-calls calls → ¬ (said s (search-by s calls) ≡ GoesOn)
+-- document 02, No. 6: "the round-by-round search ends within the same figure"
+pub end-comes : (s : Sheet) → Admitted s → (calls : Calls) → rounds-bound s ≤ round-calls calls → ¬ (said (search-by s calls) ≡ GoesOn)
 end-comes s a calls l = by-round.end-comes s a calls l
 
--- "with the list, last plan and count of the unbroken search, or its 8 or 9"
+-- "with the list, last plan and count of the unbroken search, or its 8"
 pub record Unbroken (s : Sheet) (calls : Calls) : Type 0 where
   -- how many pairs and rounds, or the refusal
-  pub says : said s (search-by s calls) ≡ end-of (list s)
+  pub says : said (search-by s calls) ≡ end-of (list s)
   -- the areas, as found at the start, then hold the list and the plan of the pair listed last, or are as found
   pub pairs : (found : SearchAreas) → areas-by s (search-by s calls) found .pairs ≡ list-left (list s) (found .pairs)
   pub plan : (found : SearchAreas) → areas-by s (search-by s calls) found .plan ≡ plan-left s (choose s (last-listed (list s))) (found .plan)
 
-pub end-unbroken : (s : Sheet) → Admitted s → (calls : Calls) → ¬ (said s (search-by s calls) ≡ GoesOn) → Unbroken s calls
+pub end-unbroken : (s : Sheet) → Admitted s → (calls : Calls) → ¬ (said (search-by s calls) ≡ GoesOn) → Unbroken s calls
 end-unbroken s a calls e =
     let there = end-is s a calls e in
     record {
@@ -252,26 +258,31 @@ recorded-empty-trains s a k = entry-empty-trains s a k
 pub chosen-empty-trains : (s : Sheet) → Admitted s → (wish : ℕ) {e : Entry} → choose s wish ≡ given e → EntryEmptyTrains s e
 chosen-empty-trains s a wish u = empty-chosen s a wish u
 
--- ---- how many rounds
+-- ---- document 02, No. 6: the list's length known beforehand
 
--- document 02, No. 6: "no search makes more rounds than that", one that gives 8 included
+-- the rounds end by themselves, within the figure, those of a search that gives 8 too
 pub search-ends : (s : Sheet) → Admitted s → (c : ℕ) × (recorded : List Entry) × (search s ≡ ended c recorded) × (c ≤ rounds-bound s)
 search-ends s a = ends-within s a
 
--- "and lists no more pairs"
-pub round-bound : (s : Sheet) → Admitted s → {l : Listing} → list s ≡ given l
+-- and wherever they end, that end is the search: the figure in its definition cuts nothing off
+pub search-is-end : (s : Sheet) → Admitted s → (k c : ℕ) (recorded : List Entry) → rounds s k (start s) ≡ ended c recorded → search s ≡ ended c recorded
+search-is-end s a k c recorded e = search-at-end s a k c recorded e
+
+-- "no search makes more rounds than that, and lists no more pairs", after however many rounds it is looked at
+pub no-more-rounds : (s : Sheet) → Admitted s → (k : ℕ) → rounds-in (rounds s k (start s)) ≤ rounds-bound s
+no-more-rounds s a k = bounds.no-more-rounds s a k
+
+pub no-more-pairs : (s : Sheet) → Admitted s → (k : ℕ) → length (listed (recorded-after s k)) ≤ rounds-bound s
+no-more-pairs s a k = bounds.no-more-pairs s a k
+
+-- and so of the list
+pub list-within : (s : Sheet) → Admitted s → {l : Listing} → list s ≡ given l
     → (l .rounds ≤ rounds-bound s) × (length (l .pairs) ≤ rounds-bound s)
-round-bound s a e = let h = listed-so s a e in (h .few-rounds, h .few-pairs)
+list-within s a e = let h = listed-so s a e in (h .few-rounds, h .few-pairs)
 
--- "A round numbered n × q + 1 isn't begun": no search needs it, so 9 is never given
-pub bound-within-limit : (s : Sheet) → Admitted s → rounds-bound s ≤ s .orders * s .trains
-bound-within-limit s a = within-limit s (a .complete .trains) (a .complete .orders)
-
-pub never-cut-off : (s : Sheet) → Admitted s → ¬ (list s ≡ refused RoundLimit)
-never-cut-off s a = nine-never s a
-
-pub never-cut-off-chosen : (s : Sheet) → Admitted s → (wish : ℕ) → ¬ (choose s wish ≡ refused RoundLimit)
-never-cut-off-chosen s a wish = nine-never-chosen s a wish
+-- no sheet has a greater figure than 5,985
+pub bound-most : (s : Sheet) → Admitted s → rounds-bound s ≤ most-pairs
+bound-most s a = bounds.bound-most s a
 
 -- ---- a search that goes on after k rounds. It loads every order, where trains run short too; document 02, No. 11 and No. 13 rest on the others
 

@@ -13,7 +13,7 @@ use Rattle.model.specs.Limits.{numbers-a-pair, numbers-a-train}
 use Rattle.model.specs.Refusal.{number, returned}
 use Rattle.model.specs.declared.Refusal.{Refusal}
 use Rattle.model.specs.declared.Refusal.the-variants.{Malformed, OutOfRange, KindTooEarly, TooMany, KindMissing, OutOfOrder, TooFewPlaces, NoSchedule}
-use Rattle.model.specs.declared.Refusal.the-variants.{RoundLimit, AreaTooShort, WishTooEarly, WrongRows, RuleBroken}
+use Rattle.model.specs.declared.Refusal.the-variants.{AreaTooShort, WishTooEarly, WrongRows, RuleBroken}
 use Rattle.fields.specs.NamePlaces.{NamesLie}
 use Rattle.fields.specs.NameLaws.{short-name, name-within}
 use Rattle.fields.specs.declared.NamePlaces.{NamePlaces}
@@ -82,7 +82,6 @@ number-small KindMissing = omega arith
 number-small (OutOfOrder line) = omega arith
 number-small TooFewPlaces = omega arith
 number-small NoSchedule = omega arith
-number-small RoundLimit = omega arith
 number-small AreaTooShort = omega arith
 number-small WishTooEarly = omega arith
 number-small WrongRows = omega arith

@@ -61,7 +61,7 @@ module _ (s : Sheet) (a : Admitted s) (wish : ℕ) where
   pub choice-begun : (p : Progress) (found : PlanAreas) → Running s p → recorded-now s p ≡ []
       → Holds s wish (Refused NoSchedule) found found (p .last) (recorded-now s p)
   unfolding last-entry
-  choice-begun p found running none = held (sym (running .shows .last ∙ ap recorded-arrival none)) (sym none) (nothing-held s wish found)
+  choice-begun p found running none = held (sym (running .last ∙ ap recorded-arrival none)) (sym none) (nothing-held s wish found)
 
   module _ (p r : Progress) (choice : ChoiceReply) (left found : PlanAreas) (h : Holds s wish choice left found (p .last) (recorded-now s p))
       (early : p .last ≤ wish) where
@@ -83,7 +83,7 @@ module _ (s : Sheet) (a : Admitted s) (wish : ℕ) where
         same : r .better ≡ false → Holds s wish choice left found (r .last) (recorded-now s r)
         same worse =
             let is = next-same s p r worse records in
-            held (before .shows .last ∙ sym (ap recorded-arrival is) ∙ sym (after .shows .last)) (sym is) h
+            held (before .last ∙ sym (ap recorded-arrival is) ∙ sym (after .last)) (sym is) h
 
         go : (b : Bool) → r .better ≡ b → (r .better ≡ false) ⊎ (wish < r .last) → Holds s wish choice left found (r .last) (recorded-now s r)
         go b u (inl worse) = same worse
@@ -100,6 +100,5 @@ module _ (s : Sheet) (a : Admitted s) (wish : ℕ) where
     where
       settled : (p .ended ≡ true) ⊎ (wish < p .last) → choose s wish ≡ chosen wish (recorded-now s p)
       settled (inl over) =
-          choice-at-end s wish (p .rounds) (p .rounds) (recorded-now s p) (running .within)
-          (over-means s p (rounds s (p .rounds) (start s)) (running .shows) over)
-      settled (inr late) = choice-settled s a wish (p .rounds) (running .within) (omega (arith, running .shows .last))
+          choice-at-end s a wish (p .rounds) (p .rounds) (recorded-now s p) (over-means s p (rounds s (p .rounds) (start s)) running over)
+      settled (inr late) = choice-settled s a wish (p .rounds) (omega (arith, running .last))

@@ -18,17 +18,18 @@ use Rattle.model.specs.declared.Refusal.{Refusal}
 use Rattle.model.specs.declared.ListReply.{ListReply}
 use Rattle.model.specs.declared.ListReply.the-variants.{Listed, Refused}
 use Rattle.rounds.specs.Answers.{Answer, refused, given, Listing, list}
+use Rattle.rounds.specs.RoundsBound.{rounds-bound}
 use Rattle.rounds.specs.Areas.{ListRoom, list-room, tested, list-to, list-reply, pair-numbers, list-left}
 use Rattle.rounds.specs.AreaLaws.{decides-list-room, list-refuses, list-as-found}
 use Rattle.rounds.specs.AnswerLaws.{Answered, no-schedule, listing, answered}
 use Rattle.rounds.specs.Told.{ListTold}
-use Rattle.front.specs.Front.{Front, listed-is-front}
+use Rattle.front.specs.Front.{Front, listed-is-front, front-is-listed, list-within}
 use Rattle.planner.specs.InAreas.{pairs-in}
 use Rattle.planner.specs.InAreasLaws.{pairs-read}
 use Rattle.room.specs.CallLaws.{passed, passes, answer-granted, accepted, told-first, told-then}
 use Rattle.planner.specs.Listing.{ListingCall}
 
--- "then 8 or 9": what the rounds answer to a sheet that passes the tests
+-- "then 8": what the rounds answer to a sheet that passes the tests
 pub list-of-rounds : (s : Sheet) (lent : List ℤ) → Admitted s → ListRoom s lent → list-to s lent ≡ list s
 unfolding list-to
 list-of-rounds s lent a room =
@@ -59,27 +60,46 @@ eight-listed s a = go (list s) (answered s a)
 
 module _ (s : Sheet) (r : ListReply) (left found : List ℤ) (told : ListTold (list-to s found) r left found) where
   -- an accepted call's listing
-  accepts : (pairs rounds : ℕ) → r ≡ Listed pairs rounds → (l : Listing) × (list-to s found ≡ given l) × (pairs ≡ length (l .pairs))
-  unfolding list-reply
+  record Accepts (pairs rounds : ℕ) : Type 0 where
+    listing : Listing
+    admitted : Admitted s
+    is-list : list s ≡ given listing
+    called : list-to s found ≡ given listing
+    many : pairs ≡ length (listing .pairs)
+    made : rounds ≡ listing .rounds
+
+  accepts : (pairs rounds : ℕ) → r ≡ Listed pairs rounds → Accepts pairs rounds
+  unfolding list-reply list-to
   accepts pairs rounds e = go (list-to s found) refl (told .replied)
     where
-      go : (x : Answer Listing) → list-to s found ≡ x → r ≡ list-reply x → (l : Listing) × (list-to s found ≡ given l) × (pairs ≡ length (l .pairs))
+      go : (x : Answer Listing) → list-to s found ≡ x → r ≡ list-reply x → Accepts pairs rounds
       go (refused f) u v = absurd (let z : _≡_ {A = ℕ} 0 1 = cc in omega arith)
-      go (given l) u v = (l, u, cc)
+      go (given l) u v =
+          let (granted, is) = accepted s (list-room s (length found)) (list s) u in
+          record { listing = l; admitted = passed s (list-room s (length found)) granted .0; is-list = is; called = u; many = cc; made = cc }
 
   front : (pairs rounds : ℕ) → r ≡ Listed pairs rounds → Front s (pairs-in pairs left)
-  unfolding list-to list-left
-  front pairs rounds e = go (accepts pairs rounds e)
-    where
-      go : ((l : Listing) × (list-to s found ≡ given l) × (pairs ≡ length (l .pairs))) → Front s (pairs-in pairs left)
-      go (l, u, many) =
-          let (granted, is) = accepted s (list-room s (length found)) (list s) u in
-          let a = passed s (list-room s (length found)) granted .0 in
-          let written = over (pair-numbers (l .pairs)) found in
-          let here : left ≡ written = told .areas-left ∙ ap (λ (x : Answer Listing). list-left x found) u in
-          let read : pairs-in pairs left ≡ l .pairs =
-          ap (pairs-in pairs) here ∙ ap (λ (k : ℕ). pairs-in k written) many ∙ pairs-read (l .pairs) found in
-          subst (Front s) (sym read) (listed-is-front s a is)
+  unfolding list-left
+  front pairs rounds e =
+      let h = accepts pairs rounds e in
+      let written = over (pair-numbers (h .listing .pairs)) found in
+      let here : left ≡ written = told .areas-left ∙ ap (λ (x : Answer Listing). list-left x found) (h .called) in
+      let read : pairs-in pairs left ≡ h .listing .pairs =
+      ap (pairs-in pairs) here ∙ ap (λ (k : ℕ). pairs-in k written) (h .many) ∙ pairs-read (h .listing .pairs) found in
+      subst (Front s) (sym read) (listed-is-front s (h .admitted) (h .is-list))
+
+  within : (pairs rounds : ℕ) → r ≡ Listed pairs rounds → (pairs ≤ rounds-bound s) × (rounds ≤ rounds-bound s)
+  within pairs rounds e =
+      let h = accepts pairs rounds e in
+      let (few-rounds, few-pairs) = list-within s (h .admitted) (h .is-list) in
+      (omega (arith, h .many), omega (arith, h .made))
+
+  lists : Admitted s → ListRoom s found → ((train : List ℕ) × (departure : List ℕ) × Schedule s train departure)
+      → (pairs : ℕ) × (rounds : ℕ) × (r ≡ Listed pairs rounds)
+  unfolding list-reply
+  lists a room (train, departure, h) =
+      let (l, is, front) = front-is-listed s a train departure h in
+      (length (l .pairs), l .rounds, told .replied ∙ ap list-reply (list-of-rounds s found a room ∙ is))
 
   -- THE WHOLE CONTRACT FOLLOWS FROM THE EQUALITY
   pub listing-call : ListingCall s r left found
@@ -87,6 +107,8 @@ module _ (s : Sheet) (r : ListReply) (left found : List ℤ) (told : ListTold (l
       record {
         equal = told;
         front = front;
+        lists = lists;
+        within = within;
         eight = λ a room. rw (told .replied, list-of-rounds s found a room) (eight-listed s a);
         seven = rw (told .replied) (list-refuses s found .seven);
         returns-zero = rw (told .replied) (list-refuses s found .returns-zero);

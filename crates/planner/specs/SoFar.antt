@@ -1,5 +1,5 @@
 -- How far each call has come in its rounds.
-use Prim.Native.Nat.{ℕ, _*_, _≤_}
+use Prim.Native.Nat.{ℕ, _≤_}
 use mathlib.Core.List.{List}
 use lib.Dec.{leb}
 use Rattle.numbers.specs.OneMoreLaws.{All}
@@ -14,10 +14,9 @@ use Rattle.search.specs.Shows.{Shows}
 use Rattle.search.specs.declared.Progress.{Progress}
 use Rattle.planner.specs.Outcome.{choice-so}
 
--- the progress shows the search after the rounds that it has made, none of them past n × q
-pub record Running (s : Sheet) (p : Progress) : Type 0 where
-  pub within : p .rounds ≤ s .orders * s .trains
-  pub shows : Shows s p (rounds s (p .rounds) (start s))
+-- the progress shows the search after the rounds that it has made
+abbrev pub Running : Sheet → Progress → Type 0
+Running s p = Shows s p (rounds s (p .rounds) (start s))
 
 -- what is recorded by then
 abbrev pub recorded-now : Sheet → Progress → List Entry

@@ -5,7 +5,7 @@ use Prim.Native.Nat.{ℕ}
 use native.Mathlib.Omega.{arith}
 use Rattle.numbers.specs.DecidesLaws.{Decides, test-means}
 use Rattle.model.specs.Sheet.{Sheet}
-use Rattle.model.specs.Admission.{Few, Admitted, admission}
+use Rattle.model.specs.Admission.{Admitted, admission}
 use Rattle.model.specs.AdmissionLaws.{admitted-means}
 use Rattle.model.specs.declared.Admission.{Admission}
 use Rattle.model.specs.declared.Admission.the-variants.{Granted, Refused}
@@ -27,9 +27,9 @@ pub tested-room : (s : Sheet) (room : Bool) (a : Admission) → a ≡ admission 
 unfolding tested after-admission
 tested-room s room a is e = ap (after-admission room) (sym e ∙ is)
 
--- where they grant, the counts are few, and no product of 10 wraps
-pub granted-few : (s : Sheet) (a : Admission) → a ≡ admission s → a ≡ Granted → Few s
-granted-few s a is e = admitted-means s .0 (sym is ∙ e) .few
+-- where they grant, the sheet is admitted
+pub granted-so : (s : Sheet) (a : Admission) → a ≡ admission s → a ≡ Granted → Admitted s
+granted-so s a is e = admitted-means s .0 (sym is ∙ e)
 
 -- a sheet that passes is admitted, and the areas have room
 pub passed : (s : Sheet) (room : Bool) → tested s room ≡ Granted → Admitted s × (room ≡ true)

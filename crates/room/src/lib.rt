@@ -9,22 +9,23 @@ ghost use mathlib.Core.Path.{_≡_};
 ghost use mathlib.Core.Bool.{_&&_, cond};
 ghost use Prim.Native.Nat.{_*_, _≤_};
 ghost use lib.Dec.{leb};
-ghost use Rattle.model.specs.Limits.{order-counts, train-counts, numbers-a-pair, numbers-a-train};
+ghost use Rattle.model.specs.Limits.{train-counts, numbers-a-train};
 ghost use Rattle.model.specs.Memory.{sheetOf};
+ghost use Rattle.model.specs.Admission.{Admitted};
 ghost use Rattle.model.specs.declared.Admission.the-variants as outcome;
 ghost use Rattle.model.specs.declared.Refusal.the-variants as cause;
 ghost use Rattle.rounds.specs.Areas.{list-room, plan-room, tested};
 ghost use Rattle.rounds.specs.ByRound.{search-room};
 
-// Whether the pairs area has room for n orders and q trains.
-fn holds_pairs(n: usize, q: usize, pairs: usize) -> bool
-    requires { ⌜ (n ≤ order-counts .most) × (q ≤ train-counts .most) ⌝ }
-    ensures { λ r. ⌜ r ≡ leb (numbers-a-pair * (n * q)) pairs ⌝ }
+// Whether the pairs area has room for as many pairs as the sheet's figure.
+fn holds_pairs(sheet: Sheet, pairs: usize) -> bool
+    requires { ⌜ Admitted (sheetOf sheet) ⌝ }
+    ensures { λ r. ⌜ r ≡ list-room (sheetOf sheet) pairs ⌝ }
 {
-    NUMBERS_A_PAIR * (n * q) <= pairs
+    NUMBERS_A_PAIR * bound::figure(sheet) <= pairs
 }
 
-// Whether the areas for trains and times have room for them.
+// Whether the areas for trains and times have room for n orders and q trains.
 fn holds_plan(n: usize, q: usize, trains: usize, times: usize) -> bool
     requires { ⌜ q ≤ train-counts .most ⌝ }
     ensures { λ r. ⌜ r ≡ (leb n trains && leb (numbers-a-train * q) times) ⌝ }
@@ -50,7 +51,7 @@ pub fn for_listing(sheet: Sheet, pairs: usize) -> Admission
     let Admission::Granted = admission else {
         return admission;
     };
-    with_room(holds_pairs(sheet.order_count, sheet.train_count, pairs))
+    with_room(holds_pairs(sheet, pairs))
 }
 
 // For choosing, which fills the areas for trains and times.
@@ -73,7 +74,6 @@ pub fn for_search(sheet: Sheet, pairs: usize, trains: usize, times: usize) -> Ad
         return admission;
     };
     with_room(
-        holds_pairs(sheet.order_count, sheet.train_count, pairs)
-            & holds_plan(sheet.order_count, sheet.train_count, trains, times),
+        holds_pairs(sheet, pairs) & holds_plan(sheet.order_count, sheet.train_count, trains, times),
     )
 }

@@ -2,23 +2,22 @@
 use mathlib.Core.Path.{_≡_, refl, ap, subst}
 use mathlib.Core.Logic.{_↔_}
 use mathlib.Core.List.{List, []}
-use Prim.Native.Nat.{ℕ, _*_, _≤_}
+use Prim.Native.Nat.{ℕ, _≤_}
 use native.Mathlib.Omega.{arith}
-use native.Mathlib.Nat.{mul-le-mul}
 use Rattle.model.specs.Sheet.{Sheet}
+use Rattle.model.specs.Schedule.{Schedule}
 use Rattle.model.specs.Admission.{Admitted}
-use Rattle.model.specs.declared.Refusal.the-variants.{NoSchedule, RoundLimit}
+use Rattle.model.specs.declared.Refusal.the-variants.{NoSchedule}
 use Rattle.rounds.specs.Timing.{Timed, stopped, timed}
 use Rattle.rounds.specs.Recording.{Entry}
-use Rattle.rounds.specs.Rounds.{Search, ended, above-everything, start, first-train, first-timing, depart, round, rounds, search}
+use Rattle.rounds.specs.Rounds.{Search, ended, rounds-in, recorded-in, above-everything, start, first-train, first-timing, depart, round, rounds, search}
 use Rattle.rounds.specs.RoundsBound.{rounds-bound}
-use Rattle.rounds.specs.RoundsLaws.{search-at-end}
 use Rattle.rounds.specs.Answers.{Answer, refused, given, Listing, list-of, list}
 use Rattle.rounds.specs.ListLaws.{list-given}
-use Rattle.rounds.specs.InvariantLaws.{Over, at-end, search-over, at-start, next-schedule}
+use Rattle.rounds.specs.InvariantLaws.{Over, at-end, search-over, search-at-end, at-start, next-schedule}
 use Rattle.rounds.specs.EndLaws.{Unschedulable, ListsFront, Found, nothing, entries, found}
 
--- 8, and there is no schedule; or a listing. It is never 9.
+-- 8, and there is no schedule; or a listing
 pub data Answered (s : Sheet) : Answer Listing → Type 0 where
   no-schedule : Unschedulable s → Answered s (refused NoSchedule)
   listing : {l : Listing} → ListsFront s l → Answered s (given l)
@@ -28,7 +27,7 @@ module _ (s : Sheet) (a : Admitted s) where
   unfolding list list-of
   answered = go (search s) (found s a)
     where
-      go : (x : Search) → Found s x → Answered s (list-of x)
+      go : (x : Search) → Found s x → Answered s (list-of (rounds-in x) (recorded-in x))
       go x (nothing none) = no-schedule none
       go x (entries {c = c} recorded some plans l) = rw (list-given c recorded some) (listing l)
 
@@ -53,12 +52,13 @@ module _ (s : Sheet) (a : Admitted s) where
       go x (no-schedule f) = refl
       go x (listing l) = let (train, departure, h, same) = l .belong 0 (l .not-empty) in absurd (none train departure h)
 
-  pub nine-never : ¬ (list s ≡ refused RoundLimit)
-  nine-never = go (list s) answered
+  -- where there is a schedule a listing is given
+  pub listed-otherwise : (train departure : List ℕ) → Schedule s train departure → (l : Listing) × (list s ≡ given l)
+  listed-otherwise train departure h = go (list s) answered
     where
-      go : (x : Answer Listing) → Answered s x → ¬ (x ≡ refused RoundLimit)
-      go x (no-schedule f) e = let z : _≡_ {A = ℕ} 0 1 = cc in omega arith
-      go x (listing l) e = let z : _≡_ {A = ℕ} 0 1 = cc in omega arith
+      go : (x : Answer Listing) → Answered s x → (l : Listing) × (x ≡ given l)
+      go x (no-schedule none) = absurd (none train departure h)
+      go x (listing {l = l} fr) = (l, refl)
 
   pub ends-within : (c : ℕ) × (recorded : List Entry) × (search s ≡ ended c recorded) × (c ≤ rounds-bound s)
   ends-within = go (search s) (search-over s a)
@@ -71,7 +71,7 @@ module _ (s : Sheet) (a : Admitted s) where
   -- 8 IS GIVEN EXACTLY WHEN STEP 2 STOPS ROUND 1
   pub eight-stops : list s ≡ refused NoSchedule ↔ (first-timing s ≡ stopped)
   unfolding rounds round start depart list list-of
-  eight-stops = (λ e. go e (first-timing s) refl, λ e. ap list-of (search-at-end s 1 1 [] one-round (first-stops e)))
+  eight-stops = (λ e. go e (first-timing s) refl, λ e. ap (λ x. list-of (rounds-in x) (recorded-in x)) (search-at-end s a 1 1 [] (first-stops e)))
     where
       go : list s ≡ refused NoSchedule → (t : Timed) → first-timing s ≡ t → t ≡ stopped
       go e stopped u = refl
@@ -79,6 +79,3 @@ module _ (s : Sheet) (a : Admitted s) where
 
       first-stops : first-timing s ≡ stopped → rounds s 1 (start s) ≡ ended 1 []
       first-stops e = ap (depart s 1 _ above-everything [] (first-train s)) e
-
-      one-round : 1 ≤ s .orders * s .trains
-      one-round = omega (arith, mul-le-mul (a .complete .orders) (a .complete .trains))

@@ -6,9 +6,9 @@ use lib.Dec.{leb}
 use Rattle.model.specs.Sheet.{Sheet}
 use Rattle.model.specs.Lateness.{Pair}
 use Rattle.model.specs.declared.Refusal.{Refusal}
-use Rattle.model.specs.declared.Refusal.the-variants.{NoSchedule, RoundLimit, WishTooEarly}
+use Rattle.model.specs.declared.Refusal.the-variants.{NoSchedule, WishTooEarly}
 use Rattle.rounds.specs.Recording.{Entry, listed}
-use Rattle.rounds.specs.Rounds.{Search, going, ended, search}
+use Rattle.rounds.specs.Rounds.{Search, rounds-in, recorded-in, search}
 
 -- a refusal, or what the call gives
 pub data Answer (A : Type 0) : Type 0 where
@@ -21,17 +21,15 @@ pub record Listing : Type 0 where
   pub pairs : List Pair
   pub rounds : ℕ
 
--- "there the limit cuts the rounds off, and that is refusal 9"; "no schedule (step 2 stops round 1)" is 8; else "the pairs in order of arrival" and
--- the count
-unfoldable pub list-of : Search → Answer Listing
+-- of what is recorded after so many rounds: "no schedule (step 2 stops round 1)" is 8; else "the pairs in order of arrival" and the count
+unfoldable pub list-of : (rounds : ℕ) → List Entry → Answer Listing
 unfolding listed
-list-of (going c latest y recorded) = refused RoundLimit
-list-of (ended c []) = refused NoSchedule
-list-of (ended c (e ∷ es)) = given (record { pairs = listed (e ∷ es); rounds = c })
+list-of c [] = refused NoSchedule
+list-of c (e ∷ es) = given (record { pairs = listed (e ∷ es); rounds = c })
 
 unfoldable pub list : Sheet → Answer Listing
 unfolding list-of search
-list s = list-of (search s)
+list s = list-of (rounds-in (search s)) (recorded-in (search s))
 
 -- the last listed arrival, for which the program `plan` wishes; 0 where nothing is listed
 unfoldable pub last-arrival-in : List Pair → ℕ
@@ -54,19 +52,13 @@ unfoldable pub last-in-time : (wish : ℕ) (e : Entry) → List Entry → Entry
 last-in-time wish e [] = e
 last-in-time wish e (e₁ ∷ es) = last-in-time wish (cond (in-time wish e₁) e₁ e) es
 
--- of what is recorded "the last listed pair not later than it", with its plan; "11, the wished arrival is before the first listed one". Nothing
--- recorded is no schedule.
+-- of what is recorded "the last listed pair not later than it", with its plan; "11, the wished arrival is before the first listed one, tested after 8":
+-- nothing recorded is no schedule.
 unfoldable pub chosen : (wish : ℕ) → List Entry → Answer Entry
 unfolding last-in-time
 chosen wish [] = refused NoSchedule
 chosen wish (e ∷ es) = cond (in-time wish e) (given (last-in-time wish e es)) (refused WishTooEarly)
 
--- 11 is "tested after 8 and 9"
-unfoldable pub choice-of : (wish : ℕ) → Search → Answer Entry
-unfolding chosen
-choice-of wish (going c latest y recorded) = refused RoundLimit
-choice-of wish (ended c recorded) = chosen wish recorded
-
 unfoldable pub choose : Sheet → (wish : ℕ) → Answer Entry
-unfolding choice-of search
-choose s wish = choice-of wish (search s)
+unfolding chosen search
+choose s wish = chosen wish (recorded-in (search s))

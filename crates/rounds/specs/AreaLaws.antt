@@ -16,10 +16,10 @@ use Rattle.model.specs.AdmissionLaws.{admission-returns, seven-means}
 use Rattle.model.specs.declared.Admission.{Admission}
 use Rattle.model.specs.declared.Admission.the-variants as tests
 use Rattle.model.specs.declared.Refusal.{Refusal}
-use Rattle.model.specs.declared.Refusal.the-variants.{NoSchedule, RoundLimit, AreaTooShort, WishTooEarly}
+use Rattle.model.specs.declared.Refusal.the-variants.{NoSchedule, AreaTooShort, WishTooEarly}
 use Rattle.rounds.specs.Recording.{Plan, Entry}
-use Rattle.rounds.specs.Rounds.{Search, going, ended, search}
-use Rattle.rounds.specs.Answers.{Answer, refused, given, Listing, list-of, list, in-time, chosen, choice-of, choose}
+use Rattle.rounds.specs.Rounds.{rounds-in, recorded-in, search}
+use Rattle.rounds.specs.Answers.{Answer, refused, given, Listing, list-of, list, in-time, chosen, choose}
 use Rattle.rounds.specs.Areas.{PlanAreas, pairs-needed, times-needed, ListRoom, list-room, PlanRoom, plan-room}
 use Rattle.rounds.specs.Areas.{after-admission, tested, after-tests, list-to, choose-to, list-reply, choice-reply}
 use Rattle.rounds.specs.Areas.{pair-numbers, time-numbers, plan-times, list-left, plan-left}
@@ -113,34 +113,32 @@ unfolding choice-reply
 choice-told (refused r) = refl
 choice-told (given e) = refl
 
--- the rounds refuse with 8 or 9
+-- the rounds refuse with 8
 pub rounds-refuse : (s : Sheet) → Refuses s (of-answer (list s))
 unfolding list list-of
-rounds-refuse s = go (search s)
+rounds-refuse s = go (rounds-in (search s)) (recorded-in (search s))
   where
-    go : (x : Search) → Refuses s (of-answer (list-of x))
-    go (going c latest y recorded) = refuses-later s RoundLimit refl (omega arith)
-    go (ended c []) = refuses-later s NoSchedule refl (omega arith)
-    go (ended c (e ∷ es)) = refuses-nothing s
+    go : (c : ℕ) (recorded : List Entry) → Refuses s (of-answer (list-of c recorded))
+    go c [] = refuses-later s NoSchedule refl (omega arith)
+    go c (e ∷ es) = refuses-nothing s
 
 pub list-refuses : (s : Sheet) (lent : List ℤ) → Refuses s (of-listing (list-reply (list-to s lent)))
 unfolding list-to
 list-refuses s lent = rw (listing-told (list-to s lent)) (answer-refuses s (list-room s (length lent)) (list s) (rounds-refuse s))
 
 pub choice-refuses : (s : Sheet) (wish : ℕ) (lent : PlanAreas) → Refuses s (of-choice (choice-reply (choose-to s wish lent)))
-unfolding choose-to choose choice-of chosen
+unfolding choose-to choose chosen
 choice-refuses s wish lent =
     rw (choice-told (choose-to s wish lent))
-    (answer-refuses s (plan-room s (length (lent .trains)) (length (lent .times))) (choose s wish) (go (search s)))
+    (answer-refuses s (plan-room s (length (lent .trains)) (length (lent .times))) (choose s wish) (go (recorded-in (search s))))
   where
     timely : (b : Bool) (e : Entry) → Refuses s (of-answer (cond b (given e) (refused WishTooEarly)))
     timely true e = refuses-nothing s
     timely false e = refuses-later s WishTooEarly refl (omega arith)
 
-    go : (x : Search) → Refuses s (of-answer (choice-of wish x))
-    go (going c latest y recorded) = refuses-later s RoundLimit refl (omega arith)
-    go (ended c []) = refuses-later s NoSchedule refl (omega arith)
-    go (ended c (e ∷ es)) = timely (in-time wish e) _
+    go : (recorded : List Entry) → Refuses s (of-answer (chosen wish recorded))
+    go [] = refuses-later s NoSchedule refl (omega arith)
+    go (e ∷ es) = timely (in-time wish e) _
 
 pub list-as-found : (x : Answer Listing) (found : List ℤ) → 1 ≤ numberOf (of-listing (list-reply x)) → list-left x found ≡ found
 unfolding list-reply list-left

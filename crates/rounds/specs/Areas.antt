@@ -19,13 +19,14 @@ use Rattle.model.specs.declared.ListReply.the-variants as listing
 use Rattle.model.specs.declared.ChoiceReply.{ChoiceReply}
 use Rattle.model.specs.declared.ChoiceReply.the-variants as choosing
 use Rattle.rounds.specs.Recording.{Plan, Entry}
+use Rattle.rounds.specs.RoundsBound.{rounds-bound}
 use Rattle.rounds.specs.Answers.{Answer, refused, given, Listing, list, choose}
 
 -- ---- test 10: "Each call tests under 10 only the areas that it fills."
 
--- "pairs (at least n × q)", two numbers each: last arrival, worst weighted lateness
+-- document 02, No. 6: "Refusal 10 then tests pairs against this figure"; two numbers each: last arrival, worst weighted lateness
 abbrev pub pairs-needed : Sheet → ℕ
-pairs-needed s = numbers-a-pair * (s .orders * s .trains)
+pairs-needed s = numbers-a-pair * rounds-bound s
 
 -- "times of train (at least q)", three numbers each: departure, arrival, window
 abbrev pub times-needed : Sheet → ℕ
@@ -50,7 +51,7 @@ pub record PlanRoom (s : Sheet) (lent : PlanAreas) : Type 0 where
 abbrev pub plan-room : Sheet → (trains times : ℕ) → Bool
 plan-room s trains times = leb (s .orders) trains && leb (times-needed s) times
 
--- ---- the answers: "4, 5, 2, 6, 7, 10, then 8 or 9"
+-- ---- the answers: "4, 5, 2, 6, 7, 10, then 8"
 
 -- 10 behind the others: where the areas that the call fills have room, or not
 unfoldable pub after-admission : (room : Bool) → Admission → Admission

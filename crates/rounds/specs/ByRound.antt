@@ -1,10 +1,9 @@
 -- DOCUMENT 02, NO. 4: A LOOK AT THE LIST WHILE THE SEARCH RUNS. "Let the search be started, moved by one round per call, and read between rounds."
 use mathlib.Core.Path.{_≡_}
 use mathlib.Core.Logic.{_⊎_}
-use mathlib.Core.Bool.{Bool, false, _&&_, cond}
+use mathlib.Core.Bool.{Bool, _&&_}
 use mathlib.Core.List.{List, [], _∷_}
-use Prim.Native.Nat.{ℕ, suc, _*_, _≤_, _<_}
-use lib.Dec.{ltb}
+use Prim.Native.Nat.{ℕ, suc, _≤_, _<_}
 use lib.IntN.{ℤ}
 use lib.ListN.{length}
 use lib.Signed.{_<ℤ_}
@@ -65,21 +64,11 @@ pub data Then (calls : Calls) : Calls → Type 0 where
 
 -- ---- the search after these calls
 
--- whether a further round is made: "A round numbered n × q + 1 isn't begun", and none after the end
-abbrev pub goes-on : Sheet → Search → Bool
-goes-on s (going c latest y recorded) = ltb c (s .orders * s .trains)
-goes-on s (ended c recorded) = false
-
--- "moved by one round per call"; "A further round after the end changes nothing"
-unfoldable pub move : Sheet → Search → Search
-unfolding round
-move s x = cond (goes-on s x) (round s x) x
-
--- "reading changes nothing"
+-- "moved by one round per call"; "A further round after the end changes nothing", as `round` has it; "reading changes nothing"
 unfoldable pub search-by : Sheet → Calls → Search
-unfolding start move
+unfolding start round
 search-by s started = start s
-search-by s (then-round calls) = move s (search-by s calls)
+search-by s (then-round calls) = round s (search-by s calls)
 search-by s (then-look calls) = search-by s calls
 
 -- ---- what the calls give
@@ -88,15 +77,16 @@ search-by s (then-look calls) = search-by s calls
 abbrev pub seen : Sheet → Calls → List Pair
 seen s calls = listed (recorded-in (search-by s calls))
 
--- the end, "with the list .. and count of the unbroken search, or its 8 or 9"
+-- the end, "with the list .. and count of the unbroken search, or its 8"
 unfoldable pub end-of : Answer Listing → RoundReply
 end-of (refused r) = Refused r
 end-of (given l) = Ended (length (l .pairs)) (l .rounds)
 
 -- a round call, of the search that it leaves: that it goes on, or the end
-unfoldable pub said : Sheet → Search → RoundReply
+unfoldable pub said : Search → RoundReply
 unfolding end-of list-of
-said s x = cond (goes-on s x) GoesOn (end-of (list-of x))
+said (going c latest y recorded) = GoesOn
+said (ended c recorded) = end-of (list-of c recorded)
 
 -- "the last plan": none where nothing is recorded
 unfoldable pub last-plan : List Entry → Answer Entry

@@ -14,8 +14,8 @@ use Rattle.rounds.specs.Recording.{Entry, listed, no-entry}
 use Rattle.rounds.specs.RecordingLaws.{listed-length, listed-at}
 use Rattle.rounds.specs.EntryPlan.{EntryPlan}
 use Rattle.rounds.specs.ChosenPair.{LastInTime, TooEarly}
-use Rattle.rounds.specs.Rounds.{Search, search}
-use Rattle.rounds.specs.Answers.{Answer, refused, given, Listing, list-of, list, chosen, choice-of, choose}
+use Rattle.rounds.specs.Rounds.{Search, rounds-in, recorded-in, search}
+use Rattle.rounds.specs.Answers.{Answer, refused, given, Listing, list-of, list, chosen, choose}
 use Rattle.rounds.specs.ListLaws.{list-given}
 use Rattle.rounds.specs.InTimeLaws.{LastAt, when-timely, when-late, last-at}
 use Rattle.rounds.specs.PairListLaws.{in-order}
@@ -34,7 +34,7 @@ pub record Choice (s : Sheet) (wish : ℕ) (e : Entry) : Type 0 where
 pub pair-late : (s : Sheet) (wish : ℕ) → TooEarly s wish → (p : Pair) → Belongs s p → wish < p .last
 pair-late s wish h p (train, departure, schedule, own) = subst (λ (p : Pair). wish < p .last) own (h .later train departure schedule)
 
--- 8, 11 or a choice. It is never 9.
+-- 8, 11 or a choice
 pub data Chose (s : Sheet) (wish : ℕ) : Answer Entry → Type 0 where
   no-schedule : Unschedulable s → Chose s wish (refused NoSchedule)
   too-early : TooEarly s wish → Chose s wish (refused WishTooEarly)
@@ -71,8 +71,8 @@ module _ (s : Sheet) (wish : ℕ) where
             };
       }
 
-  choose-is : (x : Search) → list s ≡ list-of x → Found s x → Chose s wish (choice-of wish x)
-  unfolding choice-of chosen listed
+  choose-is : (x : Search) → list s ≡ list-of (rounds-in x) (recorded-in x) → Found s x → Chose s wish (chosen wish (recorded-in x))
+  unfolding chosen listed
   choose-is x u (nothing none) = no-schedule none
   choose-is x u (entries {c = c} [] some plans l) = absurd (omega arith)
   choose-is x u (entries {c = c} (e ∷ es) some plans l) = go (decided (decides-le (e .pair .last) wish))

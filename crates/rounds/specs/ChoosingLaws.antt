@@ -3,7 +3,7 @@ use mathlib.Core.Path.{_≡_, refl, sym, ap, _∙_, subst}
 use mathlib.Core.Logic.{_↔_}
 use mathlib.Core.Bool.{cond}
 use mathlib.Core.List.{List, [], _∷_}
-use Prim.Native.Nat.{ℕ, zero, suc, _+_, _-_, _*_, _≤_, _<_}
+use Prim.Native.Nat.{ℕ, zero, suc, _+_, _-_, _≤_, _<_}
 use native.Mathlib.Omega.{arith}
 use lib.ListN.{length}
 use Rattle.numbers.specs.OneMoreLaws.{All}
@@ -15,12 +15,12 @@ use Rattle.rounds.specs.Timing.{stopped}
 use Rattle.rounds.specs.Recording.{Entry, record-entry, listed, no-entry, last-entry, recorded-arrival}
 use Rattle.rounds.specs.RecordingLaws.{listed-length, listed-at}
 use Rattle.rounds.specs.EntryPlan.{EntryBooked, EntryEmptyTrains}
-use Rattle.rounds.specs.Rounds.{Search, ended, recorded-in, start, first-timing, rounds, recorded-after, search}
-use Rattle.rounds.specs.RoundsLaws.{search-at-end}
-use Rattle.rounds.specs.Answers.{Answer, refused, given, Listing, list-of, list, last-arrival-in, in-time, last-in-time, chosen, choice-of, choose}
+use Rattle.rounds.specs.Rounds.{Search, ended, rounds-in, recorded-in, start, first-timing, rounds, recorded-after, search}
+use Rattle.rounds.specs.RoundsBound.{rounds-bound}
+use Rattle.rounds.specs.Answers.{Answer, refused, given, Listing, list-of, list, last-arrival-in, in-time, last-in-time, chosen, choose}
 use Rattle.rounds.specs.ListLaws.{list-given, last-arrival-at}
 use Rattle.rounds.specs.InTimeLaws.{when-timely, when-late, chosen-at, last-of-all, late-second, late-passed}
-use Rattle.rounds.specs.InvariantLaws.{Over, at-end, entry-booked, entry-empty-trains, search-over}
+use Rattle.rounds.specs.InvariantLaws.{Over, at-end, entry-booked, entry-empty-trains, over-by, search-at-end}
 use Rattle.rounds.specs.ArrivalLaws.{Next, no-more, one-more, next-recorded, arrivals-in-order}
 use Rattle.rounds.specs.PairListLaws.{Rising, in-order}
 use Rattle.rounds.specs.EndLaws.{Unschedulable, listing-of, Found, nothing, entries, found}
@@ -53,13 +53,12 @@ later-leaves wish (e₀ ∷ e₁ ∷ es) e some l = ap (λ x. cond (in-time wish
 
 -- ---- after some of the rounds
 
--- a search that ended within the limit is the whole search, and its entries are chosen from
-pub choice-at-end : (s : Sheet) (wish k c : ℕ) (recorded : List Entry) → k ≤ s .orders * s .trains → rounds s k (start s) ≡ ended c recorded
-    → choose s wish ≡ chosen wish recorded
-unfolding choose choice-of
-choice-at-end s wish k c recorded l e = ap (choice-of wish) (search-at-end s k c recorded l e)
-
 module _ (s : Sheet) (a : Admitted s) (wish : ℕ) where
+  -- wherever the rounds end, from those entries is chosen
+  pub choice-at-end : (k c : ℕ) (recorded : List Entry) → rounds s k (start s) ≡ ended c recorded → choose s wish ≡ chosen wish recorded
+  unfolding choose
+  choice-at-end k c recorded e = ap (λ x. chosen wish (recorded-in x)) (search-at-end s a k c recorded e)
+
   some-recorded : (recorded : List Entry) → wish < recorded-arrival recorded → 1 ≤ length recorded
   unfolding last-entry
   some-recorded [] l = absurd (omega arith)
@@ -79,18 +78,11 @@ module _ (s : Sheet) (a : Admitted s) (wish : ℕ) where
       let e : k + suc j ≡ k + j + 1 = omega arith in
       rw e (one-round-settled (k + j) (omega (arith, arrivals-in-order s a k (k + j) (omega arith))) ∙ settled k j late)
 
-  of-search : choose s wish ≡ chosen wish (recorded-in (search s))
-  unfolding choose choice-of
-  of-search = go (search s) (search-over s a)
-    where
-      go : (x : Search) → Over s x → choice-of wish x ≡ chosen wish (recorded-in x)
-      go x (at-end h) = refl
-
   -- WHAT HOLDS OF EACH RECORDED ENTRY HOLDS OF A CHOSEN ONE
   of-recorded : (P : Entry → Type 0) → ((k : ℕ) → All no-entry P (recorded-after s k)) → {e : Entry} → choose s wish ≡ given e → P e
-  unfolding search
+  unfolding choose search
   of-recorded P each {e} u =
-      let h = chosen-at wish (recorded-in (search s)) e (sym of-search ∙ u) in subst P (h .is) (each (s .orders * s .trains) (h .place) (h .among))
+      let h = chosen-at wish (recorded-in (search s)) e u in subst P (h .is) (each (rounds-bound s) (h .place) (h .among))
 
   -- its windows are those of its departures
   pub booked-chosen : {e : Entry} → choose s wish ≡ given e → EntryBooked s e
@@ -101,11 +93,14 @@ module _ (s : Sheet) (a : Admitted s) (wish : ℕ) where
   empty-chosen = of-recorded (EntryEmptyTrains s) (entry-empty-trains s a)
 
   -- ONCE THE PAIR RECORDED LAST IS LATER THAN THE WISH THE CHOICE IS SETTLED
-  pub choice-settled : (k : ℕ) → k ≤ s .orders * s .trains → wish < recorded-arrival (recorded-after s k) → choose s wish ≡ chosen wish (recorded-after s k)
-  unfolding search
-  choice-settled k l late =
-      let e : k + (s .orders * s .trains - k) ≡ s .orders * s .trains = omega arith in
-      of-search ∙ (rw e at (settled k (s .orders * s .trains - k) late))
+  pub choice-settled : (k : ℕ) → wish < recorded-arrival (recorded-after s k) → choose s wish ≡ chosen wish (recorded-after s k)
+  choice-settled k late = go (rounds s further (start s)) refl (over-by s a further (omega arith))
+    where
+      further : ℕ
+      further = k + rounds-bound s
+
+      go : (x : Search) → rounds s further (start s) ≡ x → Over s x → choose s wish ≡ chosen wish (recorded-after s k)
+      go x u (at-end h) = choice-at-end further _ _ u ∙ sym (ap (λ x. chosen wish (recorded-in x)) u) ∙ settled k (rounds-bound s) late
 
   -- ---- what the call answers
 
@@ -141,7 +136,7 @@ module _ (s : Sheet) (a : Admitted s) {l : Listing} (u : list s ≡ given l) whe
 
   -- "THE LAST RECORDED PLAN" IS CHOSEN WHERE THE WISH IS FOR THE LAST LISTED ARRIVAL
   pub last-recorded-chosen : choose s (last-arrival-in (l .pairs)) ≡ given (last-entry (recorded-in (search s)))
-  unfolding choose choice-of list list-of
+  unfolding choose list list-of
   last-recorded-chosen = go (search s) u (found s a)
     where
       no-later : (recorded : List Entry) → Rising (listed recorded) → 1 ≤ length recorded
@@ -151,7 +146,8 @@ module _ (s : Sheet) (a : Admitted s) {l : Listing} (u : list s ≡ given l) whe
           rw (← (listed-at recorded k), ← (last-arrival-at (listed recorded) (omega arith)))
           (in-order (listed recorded) rise k (length (listed recorded) - 1) (omega arith) (omega arith) .0)
 
-      go : (x : Search) → list-of x ≡ given l → Found s x → choice-of (last-arrival-in (l .pairs)) x ≡ given (last-entry (recorded-in x))
+      go : (x : Search) → list-of (rounds-in x) (recorded-in x) ≡ given l → Found s x
+          → chosen (last-arrival-in (l .pairs)) (recorded-in x) ≡ given (last-entry (recorded-in x))
       go x v (nothing none) = absurd (let z : _≡_ {A = ℕ} 0 1 = cc in omega arith)
       go x v (entries {c = c} recorded some plans h) =
           let w = list-given c recorded some in

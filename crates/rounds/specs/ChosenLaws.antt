@@ -10,7 +10,7 @@ use Rattle.numbers.specs.SignedLaws.{≤ℤ-trans}
 use Rattle.model.specs.Sheet.{Sheet}
 use Rattle.model.specs.Lateness.{Pair, pair-at}
 use Rattle.model.specs.Admission.{Admitted}
-use Rattle.model.specs.declared.Refusal.the-variants.{RoundLimit, WishTooEarly}
+use Rattle.model.specs.declared.Refusal.the-variants.{WishTooEarly}
 use Rattle.rounds.specs.Recording.{Entry}
 use Rattle.rounds.specs.ChosenPair.{Best, TooEarly}
 use Rattle.rounds.specs.Answers.{Answer, refused, given, Listing, list, choose}
@@ -74,11 +74,3 @@ module _ (s : Sheet) (a : Admitted s) (wish : ℕ) where
   eleven-before-first {l} u =
       let h = listed-so s a u in
       (λ v. pair-late s wish (eleven-chosen .0 v) _ (h .belong 0 (h .not-empty)), λ v. eleven-chosen .1 (all-late s wish l h v))
-
-  pub nine-never-chosen : ¬ (choose s wish ≡ refused RoundLimit)
-  nine-never-chosen = go (choose s wish) (chose s wish a)
-    where
-      go : (x : Answer Entry) → Chose s wish x → ¬ (x ≡ refused RoundLimit)
-      go x (no-schedule none) e = let z : _≡_ {A = ℕ} 0 1 = cc in omega arith
-      go x (too-early h) e = let z : _≡_ {A = ℕ} 0 1 = cc in omega arith
-      go x (choice h) e = let z : _≡_ {A = ℕ} 0 1 = cc in omega arith

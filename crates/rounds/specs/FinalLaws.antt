@@ -109,7 +109,7 @@ module _ (s : Sheet) (a : Admitted s) where
 
   round-call : (calls : Calls) → Final (seen s calls) (seen s (then-round calls))
   unfolding round-calls
-  round-call calls = rw (seen-is s a calls, seen-is s a (then-round calls)) (rw add-one at (one-round (round-calls calls)))
+  round-call calls = rw (seen-is s calls, seen-is s (then-round calls)) (rw add-one at (one-round (round-calls calls)))
 
   -- "ALL PAIRS READ BUT THE LAST ARE FINAL; THE LAST MAY ONLY BE REPLACED BY ONE WITH THE SAME ARRIVAL AND A SMALLER LATENESS"
   pub final : (calls later : Calls) → Then calls later → Final (seen s calls) (seen s later)

@@ -1,4 +1,4 @@
--- The invariant holds after any number of rounds, so the search ends within the bound. Assumes nothing.
+-- The invariant holds after any number of rounds, so the rounds end, within the bound. Assumes nothing.
 use mathlib.Core.Path.{_≡_, refl, subst}
 use mathlib.Core.Logic.{_⊎_, inl, inr}
 use mathlib.Core.List.{List, []}
@@ -21,7 +21,8 @@ use Rattle.rounds.specs.Recording.{Entry, no-entry}
 use Rattle.rounds.specs.EntryPlan.{EntryPlan, EntryBooked, EntryEmptyTrains}
 use Rattle.rounds.specs.Rounds.{Search, going, ended, above-everything, recorded-in, start, loading, times, round, rounds, recorded-after, search}
 use Rattle.rounds.specs.RoundsBound.{rounds-bound}
-use Rattle.rounds.specs.SumLaws.{sum-same, within-limit}
+use Rattle.rounds.specs.RoundsLaws.{one-end}
+use Rattle.rounds.specs.SumLaws.{sum-same}
 use Rattle.rounds.specs.TimingRuleLaws.{least-run}
 use Rattle.rounds.specs.ScheduleLaws.{Run, rule}
 use Rattle.rounds.specs.FrontSoFarLaws.{nothing-yet}
@@ -108,6 +109,12 @@ module _ (s : Sheet) (a : Admitted s) where
       go : Invariant s k (going c latest y recorded) → Going s k c latest y recorded
       go (still g) = g
 
+  -- it has made as many rounds as were asked for, and fewer than the bound
+  pub below-bound : (k c : ℕ) (latest : List ℕ) (y : ℤ) (recorded : List Entry) → rounds s k (start s) ≡ going c latest y recorded
+      → (c ≡ k) × (k < rounds-bound s)
+  below-bound k c latest y recorded e =
+      let g = reached k c latest y recorded e in (g .counted, omega (arith, g .counted, bounded-now s a k c latest y recorded g))
+
   module _ (k c : ℕ) (latest : List ℕ) (y : ℤ) (recorded : List Entry) (g : Going s k c latest y recorded)
       (S F W : List ℕ) (e : times s (loading s latest) ≡ timed S F W) where
     abbrev NextRun : Timed → Type 0
@@ -144,7 +151,7 @@ module _ (s : Sheet) (a : Admitted s) where
       go : Invariant s k (ended c recorded) → Ended s c recorded
       go (finished h) = h
 
-  -- THE SEARCH ENDS WITHIN THE BOUND
+  -- THE ROUNDS END: AFTER AS MANY AS THE BOUND NONE IS LEFT
   pub over-by : (k : ℕ) → rounds-bound s ≤ k → Over s (rounds s k (start s))
   over-by k l = go (rounds s k (start s)) (after k)
     where
@@ -152,6 +159,15 @@ module _ (s : Sheet) (a : Admitted s) where
       go (going c latest y recorded) (still g) = absurd (omega (arith, g .counted, bounded-now s a k c latest y recorded g))
       go (ended c recorded) (finished h) = at-end h
 
+  -- so the search has ended
   pub search-over : Over s (search s)
   unfolding search
-  search-over = over-by (s .orders * s .trains) (within-limit s (a .complete .trains) (a .complete .orders))
+  search-over = over-by (rounds-bound s) (omega arith)
+
+  -- AND WHEREVER THE ROUNDS END, THAT END IS THE SEARCH
+  pub search-at-end : (k c : ℕ) (recorded : List Entry) → rounds s k (start s) ≡ ended c recorded → search s ≡ ended c recorded
+  unfolding search
+  search-at-end k c recorded e = go (search s) refl search-over
+    where
+      go : (x : Search) → search s ≡ x → Over s x → x ≡ ended c recorded
+      go x u (at-end h) = one-end s (rounds-bound s) k _ c _ recorded (start s) u e

@@ -18,6 +18,7 @@ pub mod AreaLaws
 pub mod Checking
 pub mod Told
 pub mod ByRound
+pub mod Bound
 pub mod Cases
 pub mod CaseLaws
 pub mod SumLaws
@@ -44,6 +45,9 @@ pub mod ByRoundLaws
 pub mod FinalLaws
 pub mod ByRoundCases
 pub mod ByRoundCaseLaws
+pub mod BoundLaws
+pub mod BoundCases
+pub mod BoundCaseLaws
 pub mod SizeLaws
 pub mod ShortCases
 pub mod ShortCaseLaws

@@ -1,7 +1,7 @@
 -- DOCUMENT 01, "THE ROUNDS": A ROUND, AND THE ROUNDS.
 use mathlib.Core.Bool.{cond}
 use mathlib.Core.List.{List, []}
-use Prim.Native.Nat.{ℕ, zero, suc, _*_}
+use Prim.Native.Nat.{ℕ, zero, suc}
 use lib.IntN.{ℤ, pos}
 use lib.ListN.{replicate}
 use lib.Signed.{ltZ}
@@ -13,6 +13,7 @@ use Rattle.rounds.specs.Loading.{load}
 use Rattle.rounds.specs.Timing.{ready, Timed, stopped, timed, timing}
 use Rattle.rounds.specs.Recording.{Plan, Entry, record-entry}
 use Rattle.rounds.specs.Lowering.{lower, crowded}
+use Rattle.rounds.specs.RoundsBound.{rounds-bound}
 
 -- Between rounds: how many were made ("the number of loadings made, the stopping one included"), each order's latest train, the limit y, and what
 -- is recorded. An ended search keeps its count and what is recorded.
@@ -20,7 +21,11 @@ pub data Search : Type 0 where
   going : (rounds : ℕ) (latest : List ℕ) (y : ℤ) (recorded : List Entry) → Search
   ended : (rounds : ℕ) (recorded : List Entry) → Search
 
--- what is recorded, whether the search goes on or has ended
+-- how many rounds were made, and what is recorded, whether the search goes on or has ended
+abbrev pub rounds-in : Search → ℕ
+rounds-in (going c latest y recorded) = c
+rounds-in (ended c recorded) = c
+
 abbrev pub recorded-in : Search → List Entry
 recorded-in (going c latest y recorded) = recorded
 recorded-in (ended c recorded) = recorded
@@ -88,7 +93,8 @@ rounds s (suc k) x = rounds s k (round s x)
 abbrev pub recorded-after : Sheet → ℕ → List Entry
 recorded-after s k = recorded-in (rounds s k (start s))
 
--- "A round numbered n × q + 1 isn't begun"
+-- The rounds, run to their end. They end by themselves: no search of an admitted sheet goes on after as many rounds as document 02's figure, and after the end
+-- a further round changes nothing (`over-by` and `search-at-end` in InvariantLaws.antt).
 unfoldable pub search : Sheet → Search
-unfolding rounds start
-search s = rounds s (s .orders * s .trains) (start s)
+unfolding rounds start rounds-bound
+search s = rounds s (rounds-bound s) (start s)

@@ -1,12 +1,12 @@
--- Laws of rounds in a row, and of the search at their end. Assumes nothing.
+-- Laws of rounds in a row. Assumes nothing.
 use mathlib.Core.Path.{_≡_, refl, sym, ap, _∙_}
 use mathlib.Core.List.{List}
-use Prim.Native.Nat.{ℕ, zero, suc, _+_, _-_, _*_, _≤_}
+use Prim.Native.Nat.{ℕ, zero, suc, _+_}
 use native.Mathlib.Numerals.{add-one}
 use native.Mathlib.Omega.{arith}
 use Rattle.model.specs.Sheet.{Sheet}
 use Rattle.rounds.specs.Recording.{Entry}
-use Rattle.rounds.specs.Rounds.{Search, ended, start, round, rounds, search}
+use Rattle.rounds.specs.Rounds.{Search, ended, round, rounds}
 
 module _ (s : Sheet) where
   -- after the end further rounds change nothing
@@ -34,14 +34,6 @@ module _ (s : Sheet) where
   -- a search that has ended stays so
   pub rounds-past-end : (k j c : ℕ) (recorded : List Entry) (x : Search) → rounds s k x ≡ ended c recorded → rounds s (k + j) x ≡ ended c recorded
   rounds-past-end k j c recorded x e = rounds-further k j x ∙ ap (rounds s j) e ∙ rounds-ended j c recorded
-
-  -- a search that ended within the limit is the whole search
-  pub search-at-end : (k c : ℕ) (recorded : List Entry) → k ≤ s .orders * s .trains → rounds s k (start s) ≡ ended c recorded → search s ≡ ended c recorded
-  unfolding search
-  search-at-end k c recorded l e =
-      let j : ℕ = s .orders * s .trains - k in
-      let m : s .orders * s .trains ≡ k + j = omega arith in
-      ap (λ (m : ℕ). rounds s m (start s)) m ∙ rounds-past-end k j c recorded (start s) e
 
   -- a search has one end
   pub one-end : (k m c d : ℕ) (recorded recorded′ : List Entry) (x : Search) → rounds s k x ≡ ended c recorded → rounds s m x ≡ ended d recorded′

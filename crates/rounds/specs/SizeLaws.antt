@@ -2,7 +2,6 @@
 use mathlib.Core.Path.{_≡_, subst}
 use Prim.Native.Nat.{ℕ, _≤_, _<_}
 use native.Mathlib.Omega.{arith}
-use native.Mathlib.Nat.{mul-le-mul}
 use lib.ListN.{length}
 use Rattle.numbers.specs.Counting.{at, nth}
 use Rattle.model.specs.Sheet.{Paths, windows, timetable, Sheet}
@@ -13,7 +12,7 @@ use Rattle.model.specs.Admission.{FewWindows, Admitted}
 use Rattle.rounds.specs.Recording.{Plan, Entry}
 use Rattle.rounds.specs.EntryPlan.{EntryPlan, EntryBooked}
 use Rattle.rounds.specs.Answers.{given, Listing, list}
-use Rattle.rounds.specs.SumLaws.{within-limit}
+use Rattle.rounds.specs.BoundLaws.{bound-most}
 use Rattle.rounds.specs.ScheduleLaws.{rule, SmallPair, small-pair}
 use Rattle.rounds.specs.AnswerLaws.{listed-so}
 
@@ -38,8 +37,7 @@ module _ (s : Sheet) (a : Admitted s) where
   pub list-sizes : {l : Listing} → list s ≡ given l → ListSizes l
   list-sizes {l} e =
       let h = listed-so s a e in
-      let limit = within-limit s (a .complete .trains) (a .complete .orders) in
-      let most = mul-le-mul (a .few .orders) (a .few .trains) in
+      let most = bound-most s a in
       record {
         few-pairs = omega (arith, h .few-pairs);
         few-rounds = omega (arith, h .few-rounds);

@@ -1,22 +1,24 @@
 -- What holds where a round is begun, and what its parts leave in the progress r of the progress p.
 use mathlib.Core.Path.{_≡_}
 use mathlib.Core.Bool.{false, cond}
-use Prim.Native.Nat.{ℕ, _+_, _*_, _<_}
+use Prim.Native.Nat.{ℕ, _+_, _<_}
 use lib.IntN.{ℤ}
 use lib.ListN.{take}
 use lib.Signed.{ltZ}
 use Rattle.model.specs.Sheet.{Sheet}
 use Rattle.rounds.specs.Lowering.{lower, crowded}
+use Rattle.rounds.specs.RoundsBound.{rounds-bound}
 use Rattle.columns.specs.Columns.{UpTo}
 use Rattle.loading.specs.Ranks.{Ordered}
 use Rattle.search.specs.declared.Progress.{Progress}
 
--- a round can be made from it: the orders are in order, each has a latest train of the sheet, they are not crowded, and the round limit is not met
+-- a round can be made from it: the orders are in order, each has a latest train of the sheet, they are not crowded, and fewer rounds were made than the sheet's
+-- figure
 pub record Begun (s : Sheet) (p : Progress) : Type 0 where
   pub ordered : Ordered s (p .order)
   pub latest : UpTo (s .trains) (s .orders) (p .latest)
   pub uncrowded : crowded (s .orders) (s .capacity) (take (s .orders) (p .latest)) (s .trains) ≡ false
-  pub within : p .rounds < s .orders * s .trains
+  pub within : p .rounds < rounds-bound s
 
 -- the orders stay as they are, and the round counts
 abbrev pub Counted : (p r : Progress) → Type 0

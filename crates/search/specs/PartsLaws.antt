@@ -2,9 +2,8 @@
 use mathlib.Core.Path.{_≡_, refl, sym, ap, _∙_}
 use mathlib.Core.Bool.{Bool, false, not, _&&_}
 use mathlib.Core.List.{List}
-use Prim.Native.Nat.{ℕ, suc, _*_, _-_, _<_}
+use Prim.Native.Nat.{ℕ, suc, _-_, _<_}
 use native.Mathlib.Omega.{arith}
-use native.Mathlib.Nat.{mul-le-mul}
 use lib.Dec.{ltb}
 use lib.ListN.{take}
 use lib.Seq.{getD-take}
@@ -18,10 +17,12 @@ use Rattle.model.specs.declared.Sheet as memory
 use Rattle.rounds.specs.Timing.{ready, timed}
 use Rattle.rounds.specs.Lowering.{crowded}
 use Rattle.rounds.specs.Rounds.{Search, start, loading, times, rounds}
+use Rattle.rounds.specs.RoundsBound.{rounds-bound}
 use Rattle.rounds.specs.LoweringLaws.{decides-crowded, not-crowded}
 use Rattle.rounds.specs.ScheduleLaws.{timed-within}
 use Rattle.rounds.specs.OneRoundLaws.{Going, every-order-loaded}
-use Rattle.rounds.specs.InvariantLaws.{reached}
+use Rattle.rounds.specs.InvariantLaws.{reached, below-bound}
+use Rattle.rounds.specs.BoundLaws.{bound-most}
 use Rattle.columns.specs.Columns.{UpTo, Loaded}
 use Rattle.loading.specs.Ranks.{Ordered}
 use Rattle.timing.specs.declared.Times.{Times}
@@ -43,7 +44,7 @@ begun s a p R on = go (rounds s (R .made) (start s)) refl (R .shows .stands)
           latest = λ j u. rw (ap (λ (m : List ℕ). at m j) (sym l) ∙ getD-take (s .orders) (p .latest) j 0 u) at (g .upto j u);
           uncrowded = rw l (test-false (decides-crowded (s .orders) (s .capacity) latest (s .trains))
               (λ x. omega (arith, x .more, g .fits (x .train) (x .among))));
-          within = omega (arith, made, g .counted, R .within);
+          within = let (counted, below) = below-bound s a (R .made) c latest y recorded e in omega (arith, made);
         }
 
 module _ (s : Sheet) (a : Admitted s) (p : Progress) (b : Begun s p) where
@@ -57,12 +58,12 @@ module _ (s : Sheet) (a : Admitted s) (p : Progress) (b : Begun s p) where
 
   -- a further round can be counted
   pub few-rounds : p .rounds < most-pairs
-  few-rounds = omega (arith, b .within, mul-le-mul (a .few .orders) (a .few .trains))
+  few-rounds = omega (arith, b .within, bound-most s a)
 
 -- whether a round can be made, by tests of the orders and of their latest trains
 pub decides-begun : (s : Sheet) (p : Progress) {ordered low : Bool} → Decides (Ordered s (p .order)) ordered
     → Decides (UpTo (s .trains) (s .orders) (p .latest)) low → (b : Bool) → b ≡ crowded (s .orders) (s .capacity) (take (s .orders) (p .latest)) (s .trains)
-    → Decides (Begun s p) (((ordered && low) && not b) && ltb (p .rounds) (s .orders * s .trains))
+    → Decides (Begun s p) (((ordered && low) && not b) && ltb (p .rounds) (rounds-bound s))
 decides-begun s p o l b is =
     let d = decides-crowded (s .orders) (s .capacity) (take (s .orders) (p .latest)) (s .trains) in
     rw is

@@ -1,16 +1,14 @@
 -- Rounds one after another, for the loops of the callers. Assumes nothing.
 use mathlib.Core.Path.{_≡_, refl, sym, ap, _∙_, subst}
-use mathlib.Core.Logic.{_⊎_, inl, inr}
 use mathlib.Core.Bool.{Bool, true, false, not}
 use mathlib.Core.List.{[]}
-use Prim.Native.Nat.{ℕ, _+_, _*_, _≤_, _<_}
-use native.Mathlib.Omega.{arith}
-use Rattle.numbers.specs.DecidesLaws.{decides-eq, decided}
+use Prim.Native.Nat.{ℕ, _+_, _<_}
 use Rattle.model.specs.Sheet.{Sheet}
 use Rattle.model.specs.Admission.{Admitted}
-use Rattle.rounds.specs.Rounds.{Search, ended, recorded-in, start, rounds, recorded-after, search}
+use Rattle.rounds.specs.Rounds.{Search, going, ended, recorded-in, start, rounds, recorded-after}
+use Rattle.rounds.specs.RoundsBound.{rounds-bound}
 use Rattle.rounds.specs.RoundsLaws.{one-round-more}
-use Rattle.rounds.specs.InvariantLaws.{Over, at-end, search-over}
+use Rattle.rounds.specs.InvariantLaws.{below-bound}
 use Rattle.search.specs.Shows.{Stands, goes-on, has-ended, Shows, recorded-by, Makes}
 use Rattle.search.specs.ShowsLaws.{one-outcome}
 use Rattle.search.specs.declared.Progress.{Progress}
@@ -53,18 +51,13 @@ module _ (s : Sheet) where
       let made = makes _ h in
       (subst (Shows s r) (sym next) (made .shows), ap recorded-in next ∙ made .records)
 
-  -- a search that goes on has made fewer than n × q rounds: none is cut off
-  pub more-to-come : Admitted s → (p : Progress) → p .ended ≡ false → (k : ℕ) → k ≤ s .orders * s .trains → Shows s p (rounds s k (start s))
-      → k < s .orders * s .trains
-  unfolding search
-  more-to-come a p on k l h = split (decided (decides-eq k (s .orders * s .trains)))
+  -- a search that goes on has made fewer rounds than the sheet's figure
+  pub more-to-come : Admitted s → (p : Progress) → p .ended ≡ false → (k : ℕ) → Shows s p (rounds s k (start s)) → k < rounds-bound s
+  more-to-come a p on k h = go (rounds s k (start s)) refl (h .stands)
     where
-      cut : (x : Search) → Over s x → Stands (s .orders) p x → ⊥
-      cut x (at-end e) (has-ended f c) = one-outcome f on
-
-      split : (k ≡ s .orders * s .trains) ⊎ (¬ (k ≡ s .orders * s .trains)) → k < s .orders * s .trains
-      split (inl e) = absurd (cut (search s) (search-over s a) (rw e at (h .stands)))
-      split (inr e) = omega arith
+      go : (x : Search) → rounds s k (start s) ≡ x → Stands (s .orders) p x → k < rounds-bound s
+      go (going c latest y recorded) u (goes-on f made l v) = below-bound s a k c latest y recorded u .1
+      go (ended c recorded) u (has-ended f made) = one-outcome f on
 
   -- ---- the end
 

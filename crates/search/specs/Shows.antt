@@ -2,7 +2,7 @@
 use mathlib.Core.Path.{_≡_}
 use mathlib.Core.Bool.{true, false, cond}
 use mathlib.Core.List.{List}
-use Prim.Native.Nat.{ℕ, _*_, _<_}
+use Prim.Native.Nat.{ℕ}
 use lib.IntN.{ℤ}
 use lib.ListN.{take}
 use Rattle.model.specs.Sheet.{Sheet}
@@ -49,8 +49,7 @@ pub record RoundMade (s : Sheet) (r : Progress) (x : Search) : Type 0 where
 abbrev pub Makes : Sheet → (before after : Progress) → Type 0
 Makes s p r = (x : Search) → Shows s p x → RoundMade s r x
 
--- the search after so many rounds is shown, and a further round is within the limit
+-- the search after so many rounds is shown
 pub record Reached (s : Sheet) (p : Progress) : Type 0 where
   pub made : ℕ
-  pub within : made < s .orders * s .trains
   pub shows : Shows s p (rounds s made (start s))

@@ -26,7 +26,7 @@ fn none_above(n: usize, latest: [u8; MOST_ORDERS], q: usize) -> bool
     kept
 }
 
-// Whether the orders are in order, each has a latest train of the sheet, they are not crowded, and the round limit is not met.
+// Whether the orders are in order, each has a latest train of the sheet, they are not crowded, and fewer rounds were made than the sheet's figure.
 pub fn fits(progress: Progress, sheet: Sheet) -> bool
     requires { ⌜ Admitted (sheetOf sheet) ⌝ }
     ensures { λ r. ⌜ Decides (Begun (sheetOf sheet) progress) r ⌝ }
@@ -40,5 +40,6 @@ pub fn fits(progress: Progress, sheet: Sheet) -> bool
     let latest = progress.latest;
     let crowded = is_crowded(n, q, capacity, latest);
     let low = none_above(n, latest, q);
-    ordered & low & !crowded & (progress.rounds < n * q)
+    let most = bound::figure(sheet);
+    ordered & low & !crowded & (progress.rounds < most)
 }

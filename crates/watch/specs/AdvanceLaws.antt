@@ -18,7 +18,7 @@ use Rattle.rounds.specs.Answers.{Answer, given}
 use Rattle.rounds.specs.Areas.{pair-numbers, plan-times, plan-left}
 use Rattle.rounds.specs.Told.{areas}
 use Rattle.rounds.specs.ByRound.{SearchAreas, all-areas, SearchRoom, Calls, then-round, round-calls, search-by, last-plan, areas-by}
-use Rattle.rounds.specs.ByRoundLaws.{made-so-far, move-is}
+use Rattle.rounds.specs.ByRoundLaws.{made-so-far}
 use Rattle.recording.specs.Recorded.{held-list, Lists, ListsMore}
 use Rattle.search.specs.Shows.{Shows, shown-entry, recorded-by, RoundMade, Makes}
 use Rattle.search.specs.declared.Progress.{Progress}
@@ -70,7 +70,7 @@ module _ (s : Sheet) (state : State) (r : Progress) (makes : Makes s (progress-o
   -- a round call makes a round
   next-is : next ≡ round s x
   unfolding search-by
-  next-is = move-is s (h .admitted) (round-calls calls) x (sym (made-so-far s (h .admitted) calls))
+  next-is = refl
 
   made : RoundMade s r x
   made = makes x (h .shows)
@@ -107,7 +107,7 @@ module _ (s : Sheet) (state : State) (r : Progress) (makes : Makes s (progress-o
     -- every entry's plan is a schedule
     plans : (calls : Calls) → All no-entry (EntryPlan s) (recorded-in (search-by s calls))
     plans calls =
-        subst (λ (y : Search). All no-entry (EntryPlan s) (recorded-in y)) (sym (made-so-far s (h .admitted) calls))
+        subst (λ (y : Search). All no-entry (EntryPlan s) (recorded-in y)) (sym (made-so-far s calls))
         (entry-plans s (h .admitted) (round-calls calls))
 
     own : EntryPlan s e

@@ -1,11 +1,12 @@
 -- THE CALLS OF A SEARCH THAT IS WATCHED, IN WHATEVER ORDER. "For every list of these calls after an accepted start".
 use mathlib.Core.Path.{_≡_}
-use Prim.Native.Nat.{ℕ, _*_, _≤_}
+use Prim.Native.Nat.{ℕ, _≤_}
 use Rattle.model.specs.Sheet.{Sheet}
 use Rattle.model.specs.declared.Admission.the-variants.{Granted}
 use Rattle.model.specs.declared.RoundReply.the-variants.{GoesOn}
 use Rattle.rounds.specs.Recording.{listed}
 use Rattle.rounds.specs.Rounds.{recorded-after}
+use Rattle.rounds.specs.RoundsBound.{rounds-bound}
 use Rattle.rounds.specs.Answers.{list, last-listed, choose}
 use Rattle.rounds.specs.Areas.{list-left, plan-left}
 use Rattle.rounds.specs.ByRound.{SearchAreas, Calls, started, then-round, then-look, round-calls, Then, search-by, end-of, said, Final}
@@ -24,9 +25,9 @@ pub data Made (s : Sheet) (lent : SearchAreas) : Calls → State → SearchAreas
   looks : {calls : Calls} {state : State} {found : SearchAreas} {count : ℕ} → Made s lent calls state found → LookCall state (found .pairs) count
       → Made s lent (then-look calls) state found
 
--- the end, "with the list, last plan and count of the unbroken search, or its 8 or 9"
+-- the end, "with the list, last plan and count of the unbroken search, or its 8"
 pub record AsUnbroken (s : Sheet) (lent : SearchAreas) (calls : Calls) (left : SearchAreas) : Type 0 where
-  pub says : said s (search-by s calls) ≡ end-of (list s)
+  pub says : said (search-by s calls) ≡ end-of (list s)
   pub pairs : left .pairs ≡ list-left (list s) (lent .pairs)
   pub plan : left .plan ≡ plan-left s (choose s (last-listed (list s))) (lent .plan)
 
@@ -38,10 +39,10 @@ pub record AfterCalls (s : Sheet) (lent : SearchAreas) (calls : Calls) (state : 
       → (count then-count : ℕ) → LookCall state (left .pairs) count → LookCall then-state (then-left .pairs) then-count
       → Final (pairs-in count (left .pairs)) (pairs-in then-count (then-left .pairs))
   -- a round call says that the search goes on, or the end
-  pub says : (r : Moved) (next : SearchAreas) → RoundCall s state r next left → r .reply ≡ said s (search-by s (then-round calls))
+  pub says : (r : Moved) (next : SearchAreas) → RoundCall s state r next left → r .reply ≡ said (search-by s (then-round calls))
   -- "A further round after the end changes nothing and says that it has ended."
-  pub further : ¬ (said s (search-by s calls) ≡ GoesOn) → (r : Moved) (next : SearchAreas) → RoundCall s state r next left
-      → (r .state ≡ state) × (next ≡ left) × (r .reply ≡ said s (search-by s calls))
-  -- "the end comes within n × q round calls"
-  pub ends : s .orders * s .trains ≤ round-calls calls → ¬ (said s (search-by s calls) ≡ GoesOn)
-  pub as-unbroken : ¬ (said s (search-by s calls) ≡ GoesOn) → AsUnbroken s lent calls left
+  pub further : ¬ (said (search-by s calls) ≡ GoesOn) → (r : Moved) (next : SearchAreas) → RoundCall s state r next left
+      → (r .state ≡ state) × (next ≡ left) × (r .reply ≡ said (search-by s calls))
+  -- document 02, No. 6: "the round-by-round search ends within the same figure"
+  pub ends : rounds-bound s ≤ round-calls calls → ¬ (said (search-by s calls) ≡ GoesOn)
+  pub as-unbroken : ¬ (said (search-by s calls) ≡ GoesOn) → AsUnbroken s lent calls left

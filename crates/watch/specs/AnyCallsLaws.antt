@@ -31,11 +31,11 @@ module _ (s : Sheet) (lent : SearchAreas) where
 
   module _ (calls : Calls) (state : State) (left : SearchAreas) (h : LeftBy s lent calls state left) where
     abbrev AtEnd : Type 0
-    AtEnd = ¬ (said s (search-by s calls) ≡ GoesOn)
+    AtEnd = ¬ (said (search-by s calls) ≡ GoesOn)
 
     -- the state of an ended search says so
     says-ended : AtEnd → ¬ (state .ended ≡ 0)
-    says-ended e zero = let (c, recorded, u) = ended-so s (h .admitted) calls e in go (search-by s calls) c recorded u (h .shows .stands)
+    says-ended e zero = go (search-by s calls) _ _ (ended-so (search-by s calls) e) (h .shows .stands)
       where
         off : progress-of state .ended ≡ true → ⊥
         off f = one-outcome f (ap (λ (m : ℕ). not (eqb m 0)) zero)
@@ -59,13 +59,13 @@ module _ (s : Sheet) (lent : SearchAreas) where
       let h = left-by m in
       let a = h .admitted in
       record {
-        look = λ count c. c .sees s lent calls left h refl ∙ look-gives s a calls;
+        look = λ count c. c .sees s lent calls left h refl ∙ look-gives s calls;
         final = λ later then-state then-left t n count then-count c d.
             rw (c .sees s lent calls left h refl, d .sees s lent later then-left (left-by n) refl) (look-final s a calls later t);
         says = λ r next c. c .says lent calls h;
         further = λ e r next c.
             let (state-kept, left-kept) = c .after-the-end (says-ended calls state left h e) in
-            (state-kept, left-kept, c .says lent calls h ∙ ap (said s) (further-round s calls e));
+            (state-kept, left-kept, c .says lent calls h ∙ ap said (further-round s calls e));
         ends = end-comes s a calls;
         as-unbroken = unbroken calls state left h;
       }

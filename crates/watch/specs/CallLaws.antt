@@ -61,7 +61,6 @@ module _ (s : Sheet) (lent : SearchAreas) (t : Admission) (is : t ≡ start-to s
         begins = λ u. left-begun u p shows;
         beside = λ l. absurd (omega (arith, l, ap numberOf e));
         no-eight = rw is (refuses .no-eight);
-        no-nine = rw is (refuses .no-nine);
         returns-zero = rw is (refuses .as-any .returns-zero);
         seven = rw is (refuses .as-any .seven);
       }
@@ -74,7 +73,6 @@ module _ (s : Sheet) (lent : SearchAreas) (t : Admission) (is : t ≡ start-to s
         begins = λ u. absurd (let z : _≡_ {A = ℕ} 0 1 = cc in omega arith);
         beside = λ l. refl;
         no-eight = rw is (refuses .no-eight);
-        no-nine = rw is (refuses .no-nine);
         returns-zero = rw is (refuses .as-any .returns-zero);
         seven = rw is (refuses .as-any .seven);
       }

@@ -25,10 +25,9 @@ pub record StartCall (s : Sheet) (lent : SearchAreas) (r : Started) : Type 0 whe
   pub equal : r .admission ≡ start-to s lent
   -- an accepted one gives the state before the first round
   pub begins : r .admission ≡ Granted → LeftBy s lent started (r .state) lent
-  -- a refused one gives none, and neither 8 nor 9
+  -- a refused one gives none, and never 8
   pub beside : 1 ≤ numberOf (r .admission) → r .state ≡ no-state
   pub no-eight : ¬ (numberOf (r .admission) ≡ 8)
-  pub no-nine : ¬ (numberOf (r .admission) ≡ 9)
   pub returns-zero : returnedOf (r .admission) ≡ 0
   -- document 02, No. 5: "refusal 7 is given only if the capacities add up to less than n"
   pub seven : numberOf (r .admission) ≡ 7 → places (s .capacity) (s .trains) < s .orders
@@ -39,7 +38,7 @@ pub record RoundCall (s : Sheet) (state : State) (r : Moved) (left found : Searc
   -- whatever calls have left the state and the areas: they are left as after one round call more
   pub moves : (lent : SearchAreas) (calls : Calls) → LeftBy s lent calls state found → LeftBy s lent (then-round calls) (r .state) left
   -- that it goes on, or the end
-  pub says : (lent : SearchAreas) (calls : Calls) → LeftBy s lent calls state found → r .reply ≡ said s (search-by s (then-round calls))
+  pub says : (lent : SearchAreas) (calls : Calls) → LeftBy s lent calls state found → r .reply ≡ said (search-by s (then-round calls))
   -- Whatever the state, the sheet and the areas are: "A further round after the end changes nothing"
   pub after-the-end : ¬ (state .ended ≡ 0) → (r .state ≡ state) × (left ≡ found)
   -- what is no state of a search here is told as ended with no pair after no round, and nothing is changed

@@ -1,7 +1,7 @@
 -- What calls have left fits, and how it is tested whether a state does. Assumes nothing.
 use mathlib.Core.Path.{_≡_, sym, ap, _∙_, subst}
 use mathlib.Core.Bool.{Bool, false, not, _&&_}
-use Prim.Native.Nat.{ℕ, _*_, _≤_, _<_}
+use Prim.Native.Nat.{ℕ, _≤_}
 use native.Mathlib.Omega.{arith}
 use lib.Dec.{eqb, leb}
 use lib.ListN.{length}
@@ -12,12 +12,11 @@ use Rattle.model.specs.declared.Admission.the-variants.{Granted, Refused}
 use Rattle.model.specs.declared.Refusal.{Refusal}
 use Rattle.rounds.specs.Areas.{tested}
 use Rattle.rounds.specs.Rounds.{Search, going, ended, recorded-in, start, rounds}
-use Rattle.rounds.specs.SumLaws.{within-limit}
-use Rattle.rounds.specs.InvariantLaws.{reached, ended-after}
+use Rattle.rounds.specs.RoundsBound.{rounds-bound}
+use Rattle.rounds.specs.InvariantLaws.{reached, below-bound, ended-after}
 use Rattle.rounds.specs.ByRound.{SearchAreas, search-room, Calls, round-calls, search-by}
-use Rattle.rounds.specs.ByRoundLaws.{decides-search-room, made-so-far, below-limit}
+use Rattle.rounds.specs.ByRoundLaws.{decides-search-room, made-so-far}
 use Rattle.search.specs.Shows.{Stands, goes-on, has-ended, Shows}
-use Rattle.search.specs.ShowsLaws.{one-outcome}
 use Rattle.search.specs.Parts.{Begun}
 use Rattle.search.specs.PartsLaws.{begun}
 use Rattle.room.specs.CallLaws.{passed, passes}
@@ -30,41 +29,30 @@ module _ (s : Sheet) (lent : SearchAreas) (calls : Calls) (state : State) (left 
   abbrev k : ℕ
   k = round-calls calls
 
-  abbrev limit : ℕ
-  limit = s .orders * s .trains
-
   so-far : rounds s k (start s) ≡ search-by s calls
-  so-far = sym (made-so-far s (h .admitted) calls)
+  so-far = sym (made-so-far s calls)
 
-  -- no more pairs than rounds, and these within the limit
-  few : (state .pairs ≤ state .rounds) × (state .rounds ≤ limit)
+  -- no more pairs than rounds, and no more of these than the sheet's figure
+  few : (state .pairs ≤ state .rounds) × (state .rounds ≤ rounds-bound s)
   few = go (search-by s calls) so-far (h .shows .stands) (h .pairs-are)
     where
       go : (x : Search) → rounds s k (start s) ≡ x → Stands (s .orders) (progress-of state) x → state .pairs ≡ length (recorded-in x)
-          → (state .pairs ≤ state .rounds) × (state .rounds ≤ limit)
+          → (state .pairs ≤ state .rounds) × (state .rounds ≤ rounds-bound s)
       go (going c latest y recorded) u (goes-on e made l v) many = (
         omega (arith, made, many, reached s (h .admitted) k c latest y recorded u .on-record .few),
-        omega (arith, made, below-limit s (h .admitted) k c latest y recorded u),
+        let (counted, below) = below-bound s (h .admitted) k c latest y recorded u in omega (arith, made),
       )
       go (ended c recorded) u (has-ended e made) many =
           let at-end = ended-after s (h .admitted) k c recorded u in (
             omega (arith, made, many, at-end .on-record .few),
-            omega (arith, made, at-end .bounded, within-limit s (h .admitted .complete .trains) (h .admitted .complete .orders)),
+            omega (arith, made, at-end .bounded),
           )
 
-  -- while it goes on rounds are left
-  within : state .ended ≡ 0 → k < limit
-  within on = go (search-by s calls) so-far (h .shows .stands)
-    where
-      go : (x : Search) → rounds s k (start s) ≡ x → Stands (s .orders) (progress-of state) x → k < limit
-      go (going c latest y recorded) u (goes-on e made l v) =
-          omega (arith, reached s (h .admitted) k c latest y recorded u .counted, below-limit s (h .admitted) k c latest y recorded u)
-      go (ended c recorded) u (has-ended e made) = one-outcome e (ap (λ (m : ℕ). not (eqb m 0)) on)
-
+  -- while it goes on a round can be made
   goes-from : state .ended ≡ 0 → Begun s (progress-of state)
   goes-from on =
       begun s (h .admitted) (progress-of state)
-      (record { made = k; within = within on; shows = subst (Shows s (progress-of state)) (sym so-far) (h .shows) })
+      (record { made = k; shows = subst (Shows s (progress-of state)) (sym so-far) (h .shows) })
       (ap (λ (m : ℕ). not (eqb m 0)) on)
 
   pub left-fits : Fits s state (length (left .pairs)) (length (left .plan .trains)) (length (left .plan .times))
@@ -92,12 +80,12 @@ module _ (s : Sheet) (state : State) (pairs trains times : ℕ) (t : Admission) 
 
   module _ (granted : t ≡ Granted) where
     abbrev few-test : Bool
-    few-test = leb (state .pairs) (state .rounds) && leb (state .rounds) (s .orders * s .trains)
+    few-test = leb (state .pairs) (state .rounds) && leb (state .rounds) (rounds-bound s)
 
-    decides-few : Decides ((state .pairs ≤ state .rounds) × (state .rounds ≤ s .orders * s .trains)) few-test
-    decides-few = decides-and (decides-le (state .pairs) (state .rounds)) (decides-le (state .rounds) (s .orders * s .trains))
+    decides-few : Decides ((state .pairs ≤ state .rounds) × (state .rounds ≤ rounds-bound s)) few-test
+    decides-few = decides-and (decides-le (state .pairs) (state .rounds)) (decides-le (state .rounds) (rounds-bound s))
 
-    fit-so : (state .pairs ≤ state .rounds) × (state .rounds ≤ s .orders * s .trains) → (state .ended ≡ 0 → Begun s (progress-of state)) → FitsAt
+    fit-so : (state .pairs ≤ state .rounds) × (state .rounds ≤ rounds-bound s) → (state .ended ≡ 0 → Begun s (progress-of state)) → FitsAt
     fit-so f b =
         let (a, room) = passed s _ (sym is ∙ granted) in
         record { admitted = a; room = room; few-pairs = f .0; few-rounds = f .1; begun = b }

@@ -1,7 +1,7 @@
 -- What a round call knows leads to its contract: the state does not fit, or it is at the end, or a round was made. Assumes nothing.
 use mathlib.Core.Path.{_≡_, refl, sym, ap, _∙_, subst}
 use mathlib.Core.Logic.{_⊎_, inl, inr}
-use mathlib.Core.Bool.{false, not}
+use mathlib.Core.Bool.{not}
 use Prim.Native.Nat.{ℕ, _≤_}
 use native.Mathlib.Omega.{arith}
 use lib.ListN.{length}
@@ -12,10 +12,9 @@ use Rattle.model.specs.declared.RoundReply.{RoundReply}
 use Rattle.model.specs.declared.RoundReply.the-variants.{Ended}
 use Rattle.rounds.specs.Rounds.{Search, recorded-in}
 use Rattle.rounds.specs.ByRound.{SearchAreas, Calls, then-round, search-by, said, areas-by}
-use Rattle.rounds.specs.ByRound as by-round
 use Rattle.rounds.specs.ByRoundLaws.{decides-search-room, no-more-rounds}
-use Rattle.search.specs.Shows.{Stands, goes-on, has-ended, Shows}
-use Rattle.search.specs.ShowsLaws.{one-outcome}
+use Rattle.search.specs.Shows.{Shows}
+use Rattle.search.specs.RunLaws.{over-means}
 use Rattle.watch.specs.State.{progress-of, said-of}
 use Rattle.watch.specs.StateLaws.{SaidSo, goes, none, some, said-so, said-is}
 use Rattle.watch.specs.Fit.{Fits}
@@ -75,11 +74,9 @@ module _ (s : Sheet) (state : State) (found : SearchAreas) where
   -- AT THE END nothing moves
   module _ (over : ¬ (state .ended ≡ 0)) where
     stays : (lent : SearchAreas) (calls : Calls) → LeftBy s lent calls state found → search-by s (then-round calls) ≡ search-by s calls
-    stays lent calls h = no-more-rounds s calls (go (search-by s calls) (h .shows .stands))
-      where
-        go : (x : Search) → Stands (s .orders) (progress-of state) x → by-round.goes-on s x ≡ false
-        go x (has-ended e made) = refl
-        go x (goes-on e made l v) = one-outcome (ap not (test-false (decides-eq (state .ended) 0) over)) e
+    stays lent calls h =
+        no-more-rounds s calls _ _
+        (over-means s (progress-of state) (search-by s calls) (h .shows) (ap not (test-false (decides-eq (state .ended) 0) over)))
 
     pub round-ended : FitsHere → RoundCall s state (moved state (said-of state)) found found
     round-ended fits =
@@ -93,7 +90,7 @@ module _ (s : Sheet) (state : State) (found : SearchAreas) where
                 pairs-are = h .pairs-are ∙ ap (λ (y : Search). length (recorded-in y)) x;
                 areas-are = h .areas-are ∙ ap (λ (y : Search). areas-by s y lent) x;
               };
-          says = λ lent calls h. said-is s lent calls state found h ∙ ap (said s) (sym (stays lent calls h));
+          says = λ lent calls h. said-is s lent calls state found h ∙ ap said (sym (stays lent calls h));
           after-the-end = λ e. (refl, refl);
           no-search = λ e. (refl, refl);
           within = λ pairs rounds e.

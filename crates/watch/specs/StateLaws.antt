@@ -16,8 +16,8 @@ use Rattle.rounds.specs.Recording.{listed}
 use Rattle.rounds.specs.RecordingLaws.{listed-length}
 use Rattle.rounds.specs.Rounds.{Search, going, ended, recorded-in, start, rounds}
 use Rattle.rounds.specs.Answers.{list-of}
-use Rattle.rounds.specs.ByRound.{SearchAreas, Calls, round-calls, search-by, end-of, said}
-use Rattle.rounds.specs.ByRoundLaws.{goes-on-said, said-end, made-so-far, going-on}
+use Rattle.rounds.specs.ByRound.{SearchAreas, Calls, search-by, end-of, said}
+use Rattle.rounds.specs.ByRoundLaws.{said-going, said-ended}
 use Rattle.search.specs.Shows.{Stands, goes-on, has-ended, Shows}
 use Rattle.search.specs.RunLaws.{not-yet, by-now}
 use Rattle.search.specs.declared.Progress.{Progress}
@@ -57,21 +57,19 @@ module _ (s : Sheet) (lent : SearchAreas) (calls : Calls) (state : State) (left 
   outcome = cond (eqb (state .pairs) 0) (Refused NoSchedule) (Ended (state .pairs) (state .rounds))
 
   -- WHAT IS SAID OF A STATE THAT THESE CALLS LEFT
-  pub said-is : said-of state ≡ said s (search-by s calls)
+  pub said-is : said-of state ≡ said (search-by s calls)
   unfolding end-of list-of listed
-  said-is = go (search-by s calls) (sym (made-so-far s (h .admitted) calls)) (h .shows .stands) (h .pairs-are)
+  said-is = go (search-by s calls) (h .shows .stands) (h .pairs-are)
     where
-      go : (x : Search) → rounds s (round-calls calls) (start s) ≡ x → Stands (s .orders) (progress-of state) x → state .pairs ≡ length (recorded-in x)
-          → said-of state ≡ said s x
-      go (going c latest y recorded) u (goes-on e made l v) many =
-          ap (λ (b : Bool). cond b GoesOn outcome) (by-now (eqb (state .ended) 0) e)
-          ∙ sym (goes-on-said s _ (going-on s (h .admitted) (round-calls calls) c latest y recorded u))
-      go (ended c []) u (has-ended e made) many =
+      go : (x : Search) → Stands (s .orders) (progress-of state) x → state .pairs ≡ length (recorded-in x) → said-of state ≡ said x
+      go (going c latest y recorded) (goes-on e made l v) many =
+          ap (λ (b : Bool). cond b GoesOn outcome) (by-now (eqb (state .ended) 0) e) ∙ sym (said-going c latest y recorded)
+      go (ended c []) (has-ended e made) many =
           ap (λ (b : Bool). cond b GoesOn outcome) (not-yet (eqb (state .ended) 0) e)
           ∙ cond-yes (decides-eq (state .pairs) 0) many _ _
-          ∙ sym (said-end s _ refl)
-      go (ended c (e₀ ∷ es)) u (has-ended e made) many =
+          ∙ sym (said-ended c [])
+      go (ended c (e₀ ∷ es)) (has-ended e made) many =
           ap (λ (b : Bool). cond b GoesOn outcome) (not-yet (eqb (state .ended) 0) e)
           ∙ cond-no (decides-eq (state .pairs) 0) (λ z. omega (arith, z, many)) _ _
           ∙ rw (many ∙ sym (listed-length (e₀ ∷ es)), made) refl
-          ∙ sym (said-end s _ refl)
+          ∙ sym (said-ended c (e₀ ∷ es))

@@ -7,8 +7,8 @@ ghost use Rattle.numbers.specs.DecidesLaws.{Decides};
 ghost use Rattle.model.specs.Memory.{sheetOf};
 ghost use Rattle.watch.specs.Fit.{Fits};
 
-// The sheet passes the tests, the areas have room, no more pairs are recorded than rounds were made and no more of these than n × q, and while the search
-// goes on a round can be made.
+// The sheet passes the tests, the areas have room, no more pairs are recorded than rounds were made and no more of these than the sheet's figure, and while the
+// search goes on a round can be made.
 pub fn fits(state: State, sheet: Sheet, pairs: usize, trains: usize, times: usize) -> bool
     ensures { λ r. ⌜ Decides (Fits (sheetOf sheet) state pairs trains times) r ⌝ }
 {
@@ -16,7 +16,7 @@ pub fn fits(state: State, sheet: Sheet, pairs: usize, trains: usize, times: usiz
     let Admission::Granted = tested else {
         return false;
     };
-    let most = sheet.order_count * sheet.train_count;
+    let most = bound::figure(sheet);
     let few = (state.pairs <= state.rounds) & (state.rounds <= most);
     if state.ended != 0 {
         return few;

@@ -1,15 +1,15 @@
 -- `room::for_choosing` meets its contract: the first of tests 4, 5, 2, 6, 7 that fails, else 10. Assumes nothing.
 use borrow.Author.Needs.{needs}
 use Rattle.model.specs.Memory.{sheetOf}
-use Rattle.model.specs.Admission.{Few}
-use Rattle.room.specs.CallLaws.{tested-first, tested-room, granted-few}
+use Rattle.model.specs.Admission.{Admitted}
+use Rattle.room.specs.CallLaws.{tested-first, tested-room, granted-so}
 use Rattle.room.proofs.for_choosing.Statement.{statement}
 use Rattle.room.proofs.for_choosing.Tie as tie
 
-few : (c : tie.After-enum-told) → Few (sheetOf (c .before .before .before .args .sheet))
-few c =
+passes : (c : tie.After-enum-told) → Admitted (sheetOf (c .before .before .before .args .sheet))
+passes c =
     let told = c .before .before in
-    granted-few (sheetOf (told .before .args .sheet)) _ (told .admit .ensures) (c .enum-told .given .1)
+    granted-so (sheetOf (told .before .args .sheet)) _ (told .admit .ensures) (c .enum-told .given .1)
 
 returns : tie.Need-returns
 returns c =
@@ -26,4 +26,4 @@ returns-2 c =
 pub for-choosing-spec : {M : Type 1} → statement M
 for-choosing-spec =
     tie.close
-    (tie.spec (λ c κs. tt) (λ c. search needs) (λ c. search needs) returns (λ c κs. few c .trains) (λ c κs. tt) returns-2)
+    (tie.spec (λ c κs. tt) (λ c. search needs) (λ c. search needs) returns (λ c κs. passes c .few .trains) (λ c κs. tt) returns-2)

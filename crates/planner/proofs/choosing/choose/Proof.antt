@@ -4,7 +4,7 @@ use borrow.Author.Needs.{needs}
 use mathlib.Core.Path.{_≡_, refl}
 use mathlib.Core.Logic.{inl, inr, ⊎-elim}
 use mathlib.Core.Bool.{true, false, not}
-use Prim.Native.Nat.{_+_, _*_, _-_, _≤_, _<_}
+use Prim.Native.Nat.{_+_, _-_, _≤_, _<_}
 use native.Mathlib.Omega.{arith}
 use lib.ListN.{length}
 use mir.Facts.{toZ-ofZ}
@@ -12,6 +12,7 @@ use mir.Syntax.{w64}
 use Rattle.model.specs.Memory.{sheetOf}
 use Rattle.model.specs.Sheet.{Sheet}
 use Rattle.model.specs.Admission.{Admitted}
+use Rattle.rounds.specs.RoundsBound.{rounds-bound}
 use Rattle.rounds.specs.Areas.{PlanAreas, PlanRoom}
 use Rattle.rounds.specs.AreaLaws.{decides-plan-room}
 use Rattle.rounds.specs.Told.{areas}
@@ -35,7 +36,7 @@ Inv-loop sheet wish trains₀ times₀ progress₀ choice₀ trains times progre
     × (length times ≡ length times₀)
 
 abbrev μ-loop : tie.MeasureT-loop
-μ-loop sheet wish trains₀ times₀ progress₀ choice₀ trains times progress choice = sheet .«order_count» * sheet .«train_count» - progress .rounds
+μ-loop sheet wish trains₀ times₀ progress₀ choice₀ trains times progress choice = rounds-bound (sheetOf sheet) - progress .rounds
 
 -- ways back: to the entry from the passed tests, to these from the loop's head, to the head from a turn, and to the turn from its round
 abbrev entry : tie.After-enum-told Inv-loop μ-loop → tie.Start Inv-loop μ-loop
@@ -103,7 +104,7 @@ module _ (c : tie.Then1 Inv-loop μ-loop) where
   on : progress .ended ≡ false
   on = not-yet (progress .ended) (goes-on .0)
 
-  within : progress .rounds < sheet .orders * sheet .trains
+  within : progress .rounds < rounds-bound sheet
   within = more sheet (passes (granted (head c))) progress (head c .loop .inv .0) on
 
 round-requires : tie.Need-round-requires Inv-loop μ-loop
@@ -136,7 +137,7 @@ module _ (c : tie.After-round Inv-loop μ-loop) where
 
   goes : Running (sheet turn) result
       × (recorded-now (sheet turn) result ≡ recorded-by (sheet turn) result (recorded-now (sheet turn) (progress turn)))
-  goes = next (sheet turn) (progress turn) result (head turn .loop .inv .0) (within turn) (c .round .ensures .0) counts
+  goes = next (sheet turn) (progress turn) result (head turn .loop .inv .0) (c .round .ensures .0) counts
 
 loop-again : tie.Need-loop-again Inv-loop μ-loop
 loop-again c =

@@ -3,15 +3,16 @@
 use borrow.Author.Needs.{needs}
 use mathlib.Core.Path.{_≡_, refl}
 use mathlib.Core.Bool.{false}
-use Prim.Native.Nat.{_+_, _*_, _-_, _≤_, _<_}
+use Prim.Native.Nat.{_+_, _-_, _≤_, _<_}
 use native.Mathlib.Omega.{arith}
-use native.Mathlib.Nat.{mul-le-mul}
 use lib.ListN.{length}
 use mir.Facts.{toZ-ofZ}
 use mir.Syntax.{w64}
 use Rattle.model.specs.Memory.{sheetOf}
 use Rattle.model.specs.Sheet.{Sheet}
 use Rattle.model.specs.Admission.{Admitted}
+use Rattle.rounds.specs.RoundsBound.{rounds-bound}
+use Rattle.rounds.specs.BoundLaws.{bound-most}
 use Rattle.rounds.specs.AreaLaws.{decides-list-room}
 use Rattle.recording.specs.Recorded.{held-list, Lists}
 use Rattle.search.specs.Shows.{recorded-by}
@@ -33,7 +34,7 @@ Inv-loop sheet pairs₀ progress₀ count₀ pairs progress count =
     × (length pairs ≡ length pairs₀)
 
 abbrev μ-loop : tie.MeasureT-loop
-μ-loop sheet pairs₀ progress₀ count₀ pairs progress count = sheet .«order_count» * sheet .«train_count» - progress .rounds
+μ-loop sheet pairs₀ progress₀ count₀ pairs progress count = rounds-bound (sheetOf sheet) - progress .rounds
 
 -- ways back: to the entry from the passed tests, to these from the loop's head, and to the head from a round made
 abbrev entry : tie.After-enum-told Inv-loop μ-loop → tie.Start Inv-loop μ-loop
@@ -75,7 +76,7 @@ module _ (c : tie.Then1 Inv-loop μ-loop) where
   on : here .loop .progress .ended ≡ false
   on = not-yet (here .loop .progress .ended) (c .if1 .taken)
 
-  within : here .loop .progress .rounds < sheet .orders * sheet .trains
+  within : here .loop .progress .rounds < rounds-bound sheet
   within = more sheet (passes (granted here)) (here .loop .progress) (here .loop .inv .0) on
 
 round-requires : tie.Need-round-requires Inv-loop μ-loop
@@ -89,8 +90,8 @@ list-pair-requires c κs =
     let g = granted (here t) in
     let a = entry g .args in
     let admitted = passes g in
-    let few = mul-le-mul (admitted .few .orders) (admitted .few .trains) in
     let s = sheetOf (a .sheet) in
+    let few = bound-most s admitted in
     let room = has-room s (decides-list-room s (a .pairs .now)) _ (g .before .before .for-listing .ensures) (g .enum-told .given .1) in
     let inv = here t .loop .inv in
     (omega (arith, within t, room, inv .2, inv .3), omega (arith, within t, inv .2, few))
@@ -108,7 +109,7 @@ module _ (c : tie.After-round Inv-loop μ-loop) where
 
   goes : Running (sheet turn) (c .round .result)
       × (recorded-now (sheet turn) (c .round .result) ≡ recorded-by (sheet turn) (c .round .result) (recorded-now (sheet turn) progress))
-  goes = next (sheet turn) progress (c .round .result) (here turn .loop .inv .0) (within turn) (c .round .ensures .0) fewer
+  goes = next (sheet turn) progress (c .round .result) (here turn .loop .inv .0) (c .round .ensures .0) fewer
 
 loop-again : tie.Need-loop-again Inv-loop μ-loop
 loop-again c =
@@ -147,7 +148,7 @@ returns-2 c =
     let s = sheetOf (a .sheet) in
     listing-call s _ _ (a .pairs .now)
     (told-rounds s (a .pairs .now) _ (g .before .before .for-listing .ensures) (g .enum-told .given .1) _ _
-    (rw (c .listed .ensures) (list-ended s p (l .loop .count) (l .loop .pairs) (a .pairs .now) (l .loop .inv .0) (by-now (p .ended) (e .if1 .left))
+    (rw (c .listed .ensures) (list-ended s (passes g) p (l .loop .count) (l .loop .pairs) (a .pairs .now) (l .loop .inv .0) (by-now (p .ended) (e .if1 .left))
     (l .loop .inv .1))))
 
 pub list-spec : {M : Type 1} → statement M

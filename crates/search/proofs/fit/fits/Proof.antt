@@ -1,6 +1,5 @@
 -- `search::fit::fits` meets its contract: each part has its test. Assumes nothing.
 use native.Mathlib.Omega.{arith}
-use native.Mathlib.Nat.{mul-le-mul}
 use Rattle.model.specs.Memory.{sheetOf}
 use Rattle.search.specs.PartsLaws.{capacities, decides-begun}
 use Rattle.search.proofs.fit.fits.Statement.{statement}
@@ -16,19 +15,18 @@ is-crowded-requires c κs =
     let a = s .pre in
     (a .few .orders, a .few .trains, capacities (s .args .sheet) a, omega (arith, a .roomy))
 
-mul-result : tie.Need-mul-result
-mul-result c = let a = entry (c .before .before .before .before) .pre in omega (arith, mul-le-mul (a .few .orders) (a .few .trains))
-
 returns : tie.Need-returns
 returns c =
-    let low = c .before in
+    let low = c .before .before in
     let crowded = low .before in
     let ordered = crowded .before .before .before in
     let s = entry ordered in
-    decides-begun (sheetOf (s .args .sheet)) (s .args .progress) (ordered .are-in-order .ensures) (low .none-above .ensures) _ (crowded .is-crowded .ensures)
+    rw (c .before .figure .ensures)
+    (decides-begun (sheetOf (s .args .sheet)) (s .args .progress) (ordered .are-in-order .ensures) (low .none-above .ensures) _ (crowded .is-crowded .ensures))
 
 pub fits-spec : {M : Type 1} → statement M
 fits-spec =
     tie.close
     (tie.spec
-    (λ c κs. c .before .before .before .pre .few .orders) is-crowded-requires (λ c κs. entry (c .before .before .before) .pre .few .orders) mul-result returns)
+    (λ c κs. c .before .before .before .pre .few .orders) is-crowded-requires (λ c κs. entry (c .before .before .before) .pre .few .orders)
+    (λ c κs. entry (c .before .before .before .before) .pre) returns)

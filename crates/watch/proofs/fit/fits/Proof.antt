@@ -1,7 +1,5 @@
 -- `watch::fit::fits` meets its contract: the tests, the counts, and while the search goes on whether a round can be made. Assumes nothing.
 use borrow.Author.Needs.{needs}
-use native.Mathlib.Omega.{arith}
-use native.Mathlib.Nat.{mul-le-mul}
 use Rattle.model.specs.Memory.{sheetOf}
 use Rattle.model.specs.Admission.{Admitted}
 use Rattle.room.specs.CallLaws.{admitted}
@@ -20,35 +18,39 @@ returns c =
     let a = t .before .args in
     unfit (sheetOf (a .sheet)) (a .state) _ _ _ _ (t .for-search .ensures) _ (c .enum-told2 .given .1)
 
-mul-most : tie.Need-mul-most
-mul-most c = let a = passes (c .before) in omega (arith, mul-le-mul (a .few .orders) (a .few .trains))
+-- ways back: to the figure from the counts, and to the passed tests from the figure
+abbrev counted : tie.After-struct-known3 → tie.After-figure
+counted c = c .before .before .before
 
--- ways back: to the passed tests from the counts
-abbrev granted : tie.After-struct-known4 → tie.After-enum-told
-granted c = c .before .before .before .before
+abbrev granted : tie.After-figure → tie.After-enum-told
+granted f = f .before
 
 returns-2 : tie.Need-returns-2
 returns-2 c =
-    let g = granted (c .before) in
+    let f = counted (c .before) in
+    let g = granted f in
     let t = g .before .before in
     let a = t .before .args in
-    decides-ended (sheetOf (a .sheet)) (a .state) _ _ _ _ (t .for-search .ensures) (g .enum-told .given .1) (c .if1 .taken)
+    rw (f .figure .ensures)
+    (decides-ended (sheetOf (a .sheet)) (a .state) _ _ _ _ (t .for-search .ensures) (g .enum-told .given .1) (c .if1 .taken))
 
 fits-requires : tie.Need-fits-requires
-fits-requires c κs = passes (granted (c .before .before))
+fits-requires c κs = passes (granted (counted (c .before .before)))
 
 returns-3 : tie.Need-returns-3
 returns-3 c =
     let r = c .before in
     let e = r .before in
-    let g = granted (e .before) in
+    let f = counted (e .before) in
+    let g = granted f in
     let t = g .before .before in
     let a = t .before .args in
-    decides-going (sheetOf (a .sheet)) (a .state) _ _ _ _ (t .for-search .ensures) (g .enum-told .given .1) (e .if1 .left) _
-    (rw (r .resume .ensures) at (c .fits2 .ensures))
+    rw (f .figure .ensures)
+    (decides-going (sheetOf (a .sheet)) (a .state) _ _ _ _ (t .for-search .ensures) (g .enum-told .given .1) (e .if1 .left) _
+    (rw (r .resume .ensures) at (c .fits2 .ensures)))
 
 pub fits-spec : {M : Type 1} → statement M
 fits-spec =
     tie.close
     (tie.spec
-    (λ c κs. search needs) (λ c. search needs) (λ c. search needs) returns mul-most returns-2 (λ c κs. search needs) fits-requires returns-3)
+    (λ c κs. search needs) (λ c. search needs) (λ c. search needs) returns (λ c κs. passes c) returns-2 (λ c κs. search needs) fits-requires returns-3)

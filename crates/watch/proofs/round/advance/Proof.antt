@@ -4,7 +4,6 @@ use mathlib.Core.Path.{refl, ap}
 use mathlib.Core.Bool.{not}
 use Prim.Native.Nat.{ℕ}
 use native.Mathlib.Omega.{arith}
-use native.Mathlib.Nat.{mul-le-mul}
 use lib.Dec.{eqb}
 use lib.ListN.{length}
 use mir.Facts.{toZ-ofZ}
@@ -12,6 +11,7 @@ use mir.Syntax.{w64}
 use Rattle.numbers.specs.DecidesLaws.{test-means}
 use Rattle.model.specs.Memory.{sheetOf}
 use Rattle.model.specs.Sheet.{Sheet}
+use Rattle.rounds.specs.BoundLaws.{bound-most}
 use Rattle.rounds.specs.ByRound.{SearchAreas, all-areas, SearchRoom}
 use Rattle.rounds.specs.ByRoundLaws.{decides-search-room}
 use Rattle.search.specs.Shows.{Makes}
@@ -74,7 +74,7 @@ list-pair-requires c κs =
     let s = entry (c .before .before .before .before) in
     let few = fits s .begun (s .pre .1) .within in
     let a = fits s .admitted in
-    (omega (arith, fits s .few-pairs, few, room s .list), omega (arith, fits s .few-pairs, few, mul-le-mul (a .few .orders) (a .few .trains)))
+    (omega (arith, fits s .few-pairs, few, room s .list), omega (arith, fits s .few-pairs, few, bound-most (sheet s) a))
 
 -- where the pair is listed
 module _ (c : tie.After-list-pair) where

@@ -1,0 +1,3 @@
+pub mod BoundCall
+pub mod BoundCallLaws
+pub mod FigureLaws
