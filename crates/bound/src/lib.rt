@@ -14,10 +14,10 @@ ghost use Rattle.bound.specs.BoundCall.{BoundCall};
 fn smaller(a: usize, b: usize) -> usize
     ensures { λ r. ⌜ r ≡ min a b ⌝ }
 {
-    if a < b {
-        return a;
+    if b < a {
+        return b;
     }
-    b
+    a
 }
 
 // 1 and, for each train but the last, the places up to it, or the orders if these are fewer. Inner: it asks for an admitted sheet.
