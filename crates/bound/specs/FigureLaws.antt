@@ -1,14 +1,11 @@
 -- The figure as the code sums it up, one train more at a time. Assumes nothing.
 use mathlib.Core.Path.{_≡_, refl}
 use mathlib.Core.List.{List}
-use Prim.Native.Nat.{ℕ, suc, _+_, _-_, _≤_, _<_, min}
+use Prim.Native.Nat.{ℕ, _+_, _-_, min}
 use native.Mathlib.Numerals.{add-one}
-use native.Mathlib.Omega.{arith}
-use Rattle.numbers.specs.Counting.{at, nth, sum, total}
+use Rattle.numbers.specs.Counting.{nth, sum, total}
 use Rattle.model.specs.Sheet.{places}
-use Rattle.model.specs.Limits.{capacity-range}
 use Rattle.model.specs.Memory.{sheetOf}
-use Rattle.model.specs.Admission.{Admitted}
 use Rattle.model.specs.declared.Sheet as memory
 use Rattle.rounds.specs.RoundsBound.{rounds-bound}
 
@@ -28,7 +25,3 @@ sum-more n capacity i = rw add-one refl
 pub figure-is : (m : memory.Sheet) → 1 + total (summand (m .«order_count») (m .capacity)) (m .«train_count» - 1) ≡ rounds-bound (sheetOf m)
 unfolding rounds-bound
 figure-is m = refl
-
--- no capacity of an admitted sheet is great
-pub few-places : (m : memory.Sheet) → Admitted (sheetOf m) → (i : ℕ) → i < m .«train_count» → at (m .capacity) i ≤ capacity-range .most
-few-places m a i l = let here : suc i - 1 ≡ i = omega arith in rw here at (a .in-range .capacity (suc i) (omega arith) l .1)

@@ -6,9 +6,6 @@ use Rattle.model.specs.Sheet.{Sheet}
 use Rattle.model.specs.Refusal.{of-bound, numberOf, returnedOf}
 use Rattle.model.specs.declared.BoundReply.{BoundReply}
 use Rattle.model.specs.declared.BoundReply.the-variants.{Bounded, Refused}
-use Rattle.rounds.specs.RoundsBound.{rounds-bound}
-use Rattle.rounds.specs.Bound.{bound, bound-reply}
-use Rattle.rounds.specs.BoundLaws.{bound-given}
 use Rattle.bound.specs.BoundCall.{BoundCall}
 use Rattle.bound.specs.BoundCallLaws.{given-so}
 use Rattle.exported.specs.ExportedLaws.{numbered}

@@ -3,7 +3,6 @@ use mathlib.Core.Path.{_≡_, refl, ap, subst}
 use mathlib.Core.Logic.{_↔_}
 use mathlib.Core.List.{List, []}
 use Prim.Native.Nat.{ℕ, _≤_}
-use native.Mathlib.Omega.{arith}
 use Rattle.model.specs.Sheet.{Sheet}
 use Rattle.model.specs.Schedule.{Schedule}
 use Rattle.model.specs.Admission.{Admitted}

@@ -8,7 +8,7 @@ use Rattle.model.specs.Lateness.{Pair}
 use Rattle.model.specs.declared.Refusal.{Refusal}
 use Rattle.model.specs.declared.Refusal.the-variants.{NoSchedule, WishTooEarly}
 use Rattle.rounds.specs.Recording.{Entry, listed}
-use Rattle.rounds.specs.Rounds.{Search, rounds-in, recorded-in, search}
+use Rattle.rounds.specs.Rounds.{rounds-in, recorded-in, search}
 
 -- a refusal, or what the call gives
 pub data Answer (A : Type 0) : Type 0 where

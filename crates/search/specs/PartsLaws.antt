@@ -10,7 +10,7 @@ use lib.Seq.{getD-take}
 use Rattle.numbers.specs.Counting.{at}
 use Rattle.numbers.specs.DecidesLaws.{Decides, decides-lt, decides-and, decides-not, decides-iff, test-false, test-fails}
 use Rattle.model.specs.Sheet.{Sheet}
-use Rattle.model.specs.Limits.{most-pairs, capacity-range, last-arrival}
+use Rattle.model.specs.Limits.{most-pairs, last-arrival}
 use Rattle.model.specs.Memory.{sheetOf}
 use Rattle.model.specs.Admission.{Admitted}
 use Rattle.model.specs.declared.Sheet as memory
@@ -81,11 +81,6 @@ made-in-time s a train t e j l =
     rw (here, getD-take (s .trains) (t .arrival) j 0 l) at within
 
 module _ (m : memory.Sheet) (a : Admitted (sheetOf m)) where
-  pub capacities : UpTo (capacity-range .most) (m .«train_count») (m .capacity)
-  capacities i l =
-      let here : suc i - 1 ≡ i = omega arith in
-      omega (arith, ap (at (m .capacity)) here, a .in-range .capacity (suc i) (omega arith) l .1)
-
   pub arrives-to : (arrival latest : List ℕ) → UpTo last-arrival (m .«train_count») arrival → UpTo (m .«train_count») (m .«order_count») latest
       → ArrivesTo (m .«order_count») latest arrival
   arrives-to arrival latest in-time h j l = (omega (arith, h j l, a .few .trains), λ i k. in-time i (omega (arith, k, h j l)))

@@ -14,7 +14,7 @@ use Rattle.model.specs.declared.RoundReply.{RoundReply}
 use Rattle.model.specs.declared.RoundReply.the-variants.{GoesOn, Ended, Refused}
 use Rattle.rounds.specs.Recording.{listed}
 use Rattle.rounds.specs.RecordingLaws.{listed-length}
-use Rattle.rounds.specs.Rounds.{Search, going, ended, recorded-in, start, rounds}
+use Rattle.rounds.specs.Rounds.{Search, going, ended, recorded-in}
 use Rattle.rounds.specs.Answers.{list-of}
 use Rattle.rounds.specs.ByRound.{SearchAreas, Calls, search-by, end-of, said}
 use Rattle.rounds.specs.ByRoundLaws.{said-going, said-ended}

@@ -6,7 +6,8 @@ use borrow.Author.Needs.{needs}
 use Rattle.numbers.specs.Counting.{at, nth, total}
 use Rattle.model.specs.Sheet.{places as K}
 use Rattle.model.specs.SheetLaws.{places-start, places-more}
-use Rattle.bound.specs.FigureLaws.{summand, sum-start, sum-more, figure-is, few-places}
+use Rattle.model.specs.MemoryLaws.{few-places}
+use Rattle.bound.specs.FigureLaws.{summand, sum-start, sum-more, figure-is}
 use Rattle.bound.proofs.figure.Statement.{statement}
 use Rattle.bound.proofs.figure.Tie as tie
 

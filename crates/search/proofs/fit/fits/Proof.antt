@@ -1,7 +1,8 @@
 -- `search::fit::fits` meets its contract: each part has its test. Assumes nothing.
 use native.Mathlib.Omega.{arith}
 use Rattle.model.specs.Memory.{sheetOf}
-use Rattle.search.specs.PartsLaws.{capacities, decides-begun}
+use Rattle.model.specs.MemoryLaws.{few-places}
+use Rattle.search.specs.PartsLaws.{decides-begun}
 use Rattle.search.proofs.fit.fits.Statement.{statement}
 use Rattle.search.proofs.fit.fits.Tie as tie
 
@@ -13,7 +14,7 @@ is-crowded-requires : tie.Need-is-crowded-requires
 is-crowded-requires c κs =
     let s = entry (c .before .before) in
     let a = s .pre in
-    (a .few .orders, a .few .trains, capacities (s .args .sheet) a, omega (arith, a .roomy))
+    (a .few .orders, a .few .trains, few-places (s .args .sheet) a, omega (arith, a .roomy))
 
 returns : tie.Need-returns
 returns c =

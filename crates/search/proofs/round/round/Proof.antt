@@ -12,6 +12,7 @@ use mir.Facts.{toZ-ofZ}
 use mir.Syntax.{w64}
 use mir.Val.{toZ, ofZ}
 use Rattle.numbers.specs.Counting.{at, nth}
+use Rattle.model.specs.MemoryLaws.{few-places}
 use Rattle.model.specs.Memory.{sheetOf}
 use Rattle.model.specs.Sheet.{Sheet}
 use Rattle.model.specs.Lateness.{worst}
@@ -26,7 +27,7 @@ use Rattle.timing.specs.declared.Times.{Times}
 use Rattle.lowering.specs.RangedLaws.{in-ranges, arrives}
 use Rattle.lowering.specs.LoweringStepLaws.{worst-taken, lower-taken}
 use Rattle.search.specs.Parts.{Begun, Counted, Graded}
-use Rattle.search.specs.PartsLaws.{loads, few-rounds, made-in-time, capacities, arrives-to}
+use Rattle.search.specs.PartsLaws.{loads, few-rounds, made-in-time, arrives-to}
 use Rattle.search.specs.RoundLaws.{round-stopped, round-made}
 use Rattle.search.specs.declared.Progress.{Progress}
 use Rattle.search.proofs.round.round.Statement.{statement}
@@ -199,6 +200,6 @@ round-spec =
     lower-requires
     (λ c κs. let s = at-start (c .before .before .before) in
     let a = s .pre .0 in
-    (a .few .orders, a .few .trains, capacities (s .args .sheet) a, omega (arith, a .roomy)))
+    (a .few .orders, a .few .trains, few-places (s .args .sheet) a, omega (arith, a .roomy)))
     returns
     returns-2)
