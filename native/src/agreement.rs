@@ -2,8 +2,7 @@
 
 use crate::booking::is_booked;
 use crate::listing::Seen;
-use crate::plan::Pair;
-use crate::planner::most_rounds;
+use crate::plan::{Listing, Pair};
 use crate::print::Implementation;
 use crate::refusal::*;
 use crate::schedule::pair_of;
@@ -17,10 +16,11 @@ pub fn agrees(implementation: &Implementation, sheet: &Sheet, seen: &Seen) -> bo
     lists_front(implementation, sheet, &front) && wishes(&front).iter().all(chooses)
 }
 
-/// The listed pairs are the front, and the rounds keep to their bound; refused with 8 where there is no schedule.
+/// The listed pairs are the front, and neither they nor the rounds are more than was said beforehand; refused with 8 where there is no schedule.
 fn lists_front(implementation: &Implementation, sheet: &Sheet, front: &[Pair]) -> bool {
+    let within = |count: usize| (implementation.bound)(sheet).is_ok_and(|most| count <= most);
     match (implementation.list)(sheet) {
-        Ok(listing) => !front.is_empty() && listing.pairs == front && listing.rounds <= most_rounds(sheet),
+        Ok(Listing { pairs, rounds }) => !front.is_empty() && pairs == front && within(pairs.len()) && within(rounds),
         Err(refusal) => front.is_empty() && refusal == Refusal::of_all(NO_SCHEDULE),
     }
 }

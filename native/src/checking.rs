@@ -3,7 +3,7 @@
 
 use crate::admission::admit;
 use crate::plan::{Listing, Pair};
-use crate::planner::{holds_pairs, list_in, room, Counts};
+use crate::planner::{bound, holds_pairs, list_in, Counts};
 use crate::refusal::*;
 use crate::sheet::{Paths, Sheet, Windows};
 
@@ -42,8 +42,7 @@ pub fn check_in(sheet: &Sheet, plan: &ForeignPlan, pairs: &mut [Pair]) -> Result
 
 /// Checks with an area of its own.
 pub fn check(sheet: &Sheet, plan: &ForeignPlan) -> Result<Checked, Refusal> {
-    let (n, q) = room(sheet);
-    check_in(sheet, plan, &mut vec![Pair::default(); n * q])
+    check_in(sheet, plan, &mut vec![Pair::default(); bound(sheet)?])
 }
 
 /// The same where listing's answer is known, so that no round is made.

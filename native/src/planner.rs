@@ -1,10 +1,9 @@
-//! The independent planner's two calls: one lists the pairs, the other chooses a plan by a wished arrival.
+//! The independent planner's calls: one says beforehand how long the list may be, one lists the pairs, one chooses a plan by a wished arrival.
 
 use crate::admission::admit;
-use crate::limits::*;
 use crate::plan::{time_numbers, times_in, Entry, Listing, Pair, Plan, NUMBERS_A_TRAIN};
 use crate::refusal::*;
-use crate::search::{search, Recorded};
+use crate::search::search;
 use crate::sheet::Sheet;
 
 /// How many pairs were listed and how many rounds were made.
@@ -14,15 +13,25 @@ pub struct Counts {
     pub rounds: usize,
 }
 
+/// No search of the sheet lists more pairs than this, nor makes more rounds; known before any round is made.
+pub fn bound(sheet: &Sheet) -> Result<usize, Refusal> {
+    admit(sheet)?;
+    Ok(figure(sheet))
+}
+
+/// That figure, of any sheet: 1 and, for each train but the last, the places up to it, or the orders if these are fewer.
+pub fn figure(sheet: &Sheet) -> usize {
+    let (n, q) = sheet.size();
+    1 + (1..q).map(|i| n.min(sheet.places(i))).sum::<usize>()
+}
+
 /// Lists the pairs in the first elements of a lent area; nothing is written where the call refuses.
 pub fn list_in(sheet: &Sheet, pairs: &mut [Pair]) -> Result<Counts, Refusal> {
     admit(sheet)?;
     holds_pairs(sheet, pairs.len())?;
-    let Recorded { entries, rounds } = search(sheet)?;
-    for (area, entry) in pairs.iter_mut().zip(&entries) {
-        *area = entry.pair;
-    }
-    Ok(Counts { pairs: entries.len(), rounds })
+    let listing = search(sheet)?.listing();
+    put_first(&listing.pairs, pairs);
+    Ok(Counts { pairs: listing.pairs.len(), rounds: listing.rounds })
 }
 
 /// Puts the chosen plan in the first elements of the lent areas, and gives its pair; nothing is written where the call refuses. The area of
@@ -39,8 +48,7 @@ pub fn choose_in(sheet: &Sheet, wish: u32, train_of_order: &mut [u8], times: &mu
 
 /// Test 10 of the pairs.
 pub fn holds_pairs(sheet: &Sheet, pairs: usize) -> Result<(), Refusal> {
-    let (n, q) = sheet.size();
-    if pairs < n * q {
+    if pairs < figure(sheet) {
         return Err(Refusal::of_all(AREA_TOO_SHORT));
     }
     Ok(())
@@ -60,32 +68,19 @@ pub fn put_first<T: Copy>(elements: &[T], area: &mut [T]) {
     area[..elements.len()].copy_from_slice(elements);
 }
 
-/// Lists with an area of its own.
+/// Lists with an area of its own, which is as long as the list may be.
 pub fn list(sheet: &Sheet) -> Result<Listing, Refusal> {
-    let (n, q) = room(sheet);
-    let mut pairs = vec![Pair::default(); n * q];
+    let mut pairs = vec![Pair::default(); bound(sheet)?];
     let counts = list_in(sheet, &mut pairs)?;
     pairs.truncate(counts.pairs);
     Ok(Listing { pairs, rounds: counts.rounds })
 }
 
-/// Chooses with areas of its own.
+/// Chooses with areas of its own, which a sheet beyond the limits does not get.
 pub fn choose(sheet: &Sheet, wish: u32) -> Result<Entry, Refusal> {
-    let (n, q) = room(sheet);
+    admit(sheet)?;
+    let (n, q) = sheet.size();
     let (mut train_of_order, mut times) = (vec![0; n], vec![0; NUMBERS_A_TRAIN * q]);
     let pair = choose_in(sheet, wish, &mut train_of_order, &mut times)?;
     Ok(Entry { pair, plan: Plan { train_of_order, times: times_in(&times) } })
-}
-
-/// The orders and trains that areas have room for: a sheet beyond the limits is refused before the areas matter.
-pub fn room(sheet: &Sheet) -> (usize, usize) {
-    let (n, q) = sheet.size();
-    (n.min(MOST_ORDERS), q.min(MOST_TRAINS))
-}
-
-/// No search makes more rounds than this: 1 and, for each train but the last, the places up to it, or the orders if these are fewer.
-pub fn most_rounds(sheet: &Sheet) -> usize {
-    let (n, q) = sheet.size();
-    let places_to = |i: usize| sheet.capacity[..i].iter().sum::<u32>() as usize;
-    1 + (1..q).map(|i| n.min(places_to(i))).sum::<usize>()
 }

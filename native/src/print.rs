@@ -12,16 +12,22 @@ use std::ops::Range;
 /// What the program `plan` reads at most.
 pub const LONGEST_TEXT: usize = 65_536;
 
-/// The calls that printing takes, and the checking call.
+/// The calls that printing takes, the checking call, and the one that says how long the list may be.
 pub struct Implementation {
     pub read: fn(&[u8], Form) -> Result<Reading, Refusal>,
     pub list: fn(&Sheet) -> Result<Listing, Refusal>,
     pub choose: fn(&Sheet, u32) -> Result<Entry, Refusal>,
     pub check: fn(&Sheet, &ForeignPlan) -> Result<Checked, Refusal>,
+    pub bound: fn(&Sheet) -> Result<usize, Refusal>,
 }
 
-pub const INDEPENDENT: Implementation =
-    Implementation { read: reader::read, list: planner::list, choose: planner::choose, check: checking::check };
+pub const INDEPENDENT: Implementation = Implementation {
+    read: reader::read,
+    list: planner::list,
+    choose: planner::choose,
+    check: checking::check,
+    bound: planner::bound,
+};
 
 /// What the program `plan` prints for this standard input, by the independent implementation.
 pub fn print(text: &[u8]) -> String {

@@ -8,13 +8,13 @@ pub const KIND_MISSING: usize = 5;
 pub const OUT_OF_ORDER: usize = 6;
 pub const TOO_FEW_PLACES: usize = 7;
 pub const NO_SCHEDULE: usize = 8;
-pub const ROUND_LIMIT: usize = 9;
+// 9 is not used.
 pub const AREA_TOO_SHORT: usize = 10;
 pub const WISH_TOO_EARLY: usize = 11;
 pub const WRONG_ROWS: usize = 12;
 pub const RULE_BROKEN: usize = 13;
 
-/// How many numbers there are, with 0 for "not refused".
+/// One more than the greatest number; 0 stands for "not refused".
 pub const NUMBER_COUNT: usize = 14;
 
 #[derive(Clone, Copy, Debug, PartialEq, Eq)]

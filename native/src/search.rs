@@ -81,20 +81,14 @@ impl Search {
         better.then_some(Better { pair, replaces, train_of_order: train, times })
     }
 
-    /// Whether a further round is made: none after a stop, and none beyond n x q.
-    pub fn goes_on(&self, sheet: &Sheet) -> bool {
-        let (n, q) = sheet.size();
-        !self.stopped && self.rounds < n * q
+    /// Whether a further round is made: none after a stop.
+    pub fn goes_on(&self) -> bool {
+        !self.stopped
     }
 
-    /// What a search that no longer goes on comes to: how many rounds were made; refused with 9 where the limit cut it off, which never happens,
-    /// and with 8 where nothing is recorded.
+    /// What a search that no longer goes on comes to: how many rounds were made; refused with 8 where nothing is recorded.
     pub fn end(&self) -> Result<usize, Refusal> {
-        match (self.stopped, self.last) {
-            (false, _) => Err(Refusal::of_all(ROUND_LIMIT)),
-            (true, None) => Err(Refusal::of_all(NO_SCHEDULE)),
-            (true, Some(_)) => Ok(self.rounds),
-        }
+        self.last.map(|_| self.rounds).ok_or(Refusal::of_all(NO_SCHEDULE))
     }
 }
 
@@ -102,7 +96,7 @@ impl Search {
 pub fn search(sheet: &Sheet) -> Result<Recorded, Refusal> {
     let mut search = Search::start(sheet);
     let mut entries = Vec::new();
-    while search.goes_on(sheet) {
+    while search.goes_on() {
         if let Some(better) = search.round(sheet) {
             record(&mut entries, better);
         }

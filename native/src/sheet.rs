@@ -93,9 +93,14 @@ impl Sheet {
         (self.orders.len(), self.capacity.len())
     }
 
-    /// How many places are left if each order has one; none if there are too few. A capacity may be any u32 here.
+    /// The places of trains 1 to i: document 01's K_i. A capacity may be any u32 here.
+    pub fn places(&self, i: usize) -> usize {
+        self.capacity[..i].iter().map(|&places| places as usize).sum()
+    }
+
+    /// How many places are left if each order has one; none if there are too few.
     pub fn spare_places(&self) -> Option<usize> {
-        let places: usize = self.capacity.iter().map(|&places| places as usize).sum();
-        places.checked_sub(self.orders.len())
+        let (n, q) = self.size();
+        self.places(q).checked_sub(n)
     }
 }

@@ -43,10 +43,10 @@ impl Watched {
 
     /// Makes one round, and none after the end, which is told again.
     pub fn round(&mut self, sheet: &Sheet, areas: &mut SearchAreas) -> Said {
-        if self.search.goes_on(sheet) {
+        if self.search.goes_on() {
             self.make_round(sheet, areas);
         }
-        if self.search.goes_on(sheet) {
+        if self.search.goes_on() {
             return Said::GoesOn;
         }
         match self.search.end() {

@@ -29,7 +29,7 @@ pub fn late() -> Sheet {
 }
 
 /// Lists with an area of this length, filled with guards.
-fn list_guarded(sheet: &Sheet, length: usize) -> (Result<Counts, Refusal>, Vec<Pair>) {
+pub fn list_guarded(sheet: &Sheet, length: usize) -> (Result<Counts, Refusal>, Vec<Pair>) {
     let mut pairs = vec![GUARD_PAIR; length];
     (list_in(sheet, &mut pairs), pairs)
 }
@@ -40,14 +40,16 @@ fn choose_guarded(sheet: &Sheet, wish: u32, lengths: [usize; 2]) -> (Result<Pair
     (choose_in(sheet, wish, &mut train_of_order, &mut times), train_of_order, times)
 }
 
+/// Two pairs are the figure of case a.
 #[test]
 fn refused_listing() {
     for (sheet, length, number) in [
         (too_few_places(), 0, TOO_FEW_PLACES),
-        (sheet_of(CASE_A), 5, AREA_TOO_SHORT),
+        (too_few_places(), 6, TOO_FEW_PLACES),
+        (sheet_of(CASE_A), 1, AREA_TOO_SHORT),
         (sheet_of(CASE_A), 0, AREA_TOO_SHORT),
-        (late(), 5, AREA_TOO_SHORT),
-        (late(), 6, NO_SCHEDULE),
+        (late(), 1, AREA_TOO_SHORT),
+        (late(), 2, NO_SCHEDULE),
     ] {
         let refused = (Err(Refusal::of_all(number)), vec![GUARD_PAIR; length]);
         assert_eq!(list_guarded(&sheet, length), refused, "{length}");
@@ -79,10 +81,12 @@ fn refused_choosing() {
 #[test]
 fn only_first_elements_written() {
     let good = sheet_of(CASE_A);
-    let (counts, pairs) = list_guarded(&good, 8);
-    assert_eq!(counts, Ok(Counts { pairs: 2, rounds: 2 }));
-    assert_eq!(pairs[..2], [Pair { arrival: 110, lateness: 150 }, Pair { arrival: 130, lateness: 70 }]);
-    assert_eq!(pairs[2..], [GUARD_PAIR; 6]);
+    for length in [2, 3, 8] {
+        let (counts, pairs) = list_guarded(&good, length);
+        assert_eq!(counts, Ok(Counts { pairs: 2, rounds: 2 }));
+        assert_eq!(pairs[..2], [Pair { arrival: 110, lateness: 150 }, Pair { arrival: 130, lateness: 70 }]);
+        assert_eq!(pairs[2..], vec![GUARD_PAIR; length - 2]);
+    }
     let (pair, train_of_order, times) = choose_guarded(&good, 129, [5, 8]);
     assert_eq!(pair, Ok(Pair { arrival: 110, lateness: 150 }));
     assert_eq!(train_of_order, [1, 2, 2, GUARD_TRAIN, GUARD_TRAIN]);

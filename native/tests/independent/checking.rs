@@ -1,6 +1,6 @@
 //! Plans from elsewhere: those of document 01's cases, our own, damaged, drawn and shuffled ones, and every plan of small sheets.
 
-use crate::areas::{late, too_few_places};
+use crate::areas::{late, too_few_places, GUARD_PAIR};
 use crate::judge::judged;
 use native::cases::{sheet_of, with, CASE_A, CASE_H};
 use native::checking::{check, check_by, check_in, Checked, ForeignPlan, Row};
@@ -121,21 +121,19 @@ fn of_a_short_timetable() {
     assert_eq!(said(&third, [50, 95, 96], [2, 2, 2]), Err(RULE_BROKEN), "train 2 has two places");
 }
 
-const GUARD: Pair = Pair { arrival: 7, lateness: 7 };
-
 /// The answer with an area of this length, filled with guards; where it is a refusal, nothing is written.
-fn guarded(sheet: &Sheet, plan: &ForeignPlan, length: usize) -> Result<(Checked, Vec<Pair>), usize> {
-    let mut pairs = vec![GUARD; length];
+pub fn check_guarded(sheet: &Sheet, plan: &ForeignPlan, length: usize) -> Result<(Checked, Vec<Pair>), usize> {
+    let mut pairs = vec![GUARD_PAIR; length];
     match check_in(sheet, plan, &mut pairs) {
         Ok(checked) => Ok((checked, pairs)),
         Err(refusal) => {
-            assert_eq!((refusal.returned, pairs), (0, vec![GUARD; length]));
+            assert_eq!((refusal.returned, pairs), (0, vec![GUARD_PAIR; length]));
             Err(refusal.number)
         }
     }
 }
 
-/// The refusals of the sheet, 10, 12, 13; there is no 8, since 13 comes before the list.
+/// The refusals of the sheet, 10, 12, 13; there is no 8, since 13 comes before the list. Two pairs are the figure.
 #[test]
 fn refusals_in_turn() {
     let good = sheet_of(CASE_A);
@@ -149,22 +147,22 @@ fn refusals_in_turn() {
     for (sheet, plan, length, number) in [
         (&too_few_places, &nothing, 0, TOO_FEW_PLACES),
         (&too_few_places, &by_release, 6, TOO_FEW_PLACES),
-        (&good, &by_release, 5, AREA_TOO_SHORT),
+        (&good, &by_release, 1, AREA_TOO_SHORT),
         (&good, &by_release, 0, AREA_TOO_SHORT),
-        (&good, &no_gap, 5, AREA_TOO_SHORT),
-        (&good, &twice, 5, AREA_TOO_SHORT),
-        (&good, &nothing, 5, AREA_TOO_SHORT),
-        (&late, &by_release, 5, AREA_TOO_SHORT),
-        (&good, &nothing, 6, WRONG_ROWS),
-        (&good, &twice, 6, WRONG_ROWS),
-        (&good, &twice_no_gap, 6, WRONG_ROWS),
-        (&good, &three_trains, 6, WRONG_ROWS),
-        (&late, &twice, 6, WRONG_ROWS),
-        (&good, &no_gap, 6, RULE_BROKEN),
-        (&late, &by_release, 6, RULE_BROKEN),
-        (&late, &no_gap, 6, RULE_BROKEN),
+        (&good, &no_gap, 1, AREA_TOO_SHORT),
+        (&good, &twice, 1, AREA_TOO_SHORT),
+        (&good, &nothing, 1, AREA_TOO_SHORT),
+        (&late, &by_release, 1, AREA_TOO_SHORT),
+        (&good, &nothing, 2, WRONG_ROWS),
+        (&good, &twice, 2, WRONG_ROWS),
+        (&good, &twice_no_gap, 2, WRONG_ROWS),
+        (&good, &three_trains, 2, WRONG_ROWS),
+        (&late, &twice, 2, WRONG_ROWS),
+        (&good, &no_gap, 2, RULE_BROKEN),
+        (&late, &by_release, 2, RULE_BROKEN),
+        (&late, &no_gap, 2, RULE_BROKEN),
     ] {
-        assert_eq!(guarded(sheet, plan, length), Err(number), "{plan:?} {length}");
+        assert_eq!(check_guarded(sheet, plan, length), Err(number), "{plan:?} {length}");
     }
 }
 
@@ -177,10 +175,10 @@ fn only_first_elements_written() {
         [([0, 90], list[0], true), ([10, 95], Pair { arrival: 115, lateness: 165 }, false)]
     {
         let plan = plan(&departures, &[(3, 2), (1, 1), (2, 2)]);
-        for length in [6, 9] {
-            let (checked, pairs) = guarded(&good, &plan, length).unwrap();
+        for length in [2, 3, 9] {
+            let (checked, pairs) = check_guarded(&good, &plan, length).unwrap();
             assert_eq!(checked, Checked { pair, listed, counts });
-            assert_eq!(pairs, [&list[..], &vec![GUARD; length - 2]].concat());
+            assert_eq!(pairs, [&list[..], &vec![GUARD_PAIR; length - 2]].concat());
         }
     }
 }

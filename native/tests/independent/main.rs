@@ -1,6 +1,7 @@
 //! The independent implementation against document 01's cases, the stored sheets, the rounds word for word and the listing.
 
 mod areas;
+mod bound;
 mod checking;
 mod choosing;
 mod judge;

@@ -1,15 +1,18 @@
-//! Sheets in memory: their tests, by listing, by choosing and by the start of a search.
+//! Sheets in memory: their tests, by each call.
 
 use native::cases::{sheet_of, CASE_A, CASE_H};
+use native::checking::{check, ForeignPlan};
 use native::limits::*;
-use native::planner::{choose, list};
+use native::planner::{bound, choose, list};
 use native::refusal::*;
 use native::sheet::{Orders, Paths, Sheet, Timetable, Windows};
 use native::watching::Watched;
 
 /// The number with which all calls refuse a sheet, if they do. Wish 0 is before every arrival, and refused after all else.
 fn refused(sheet: &Sheet) -> Option<usize> {
-    let refusal = list(sheet).err();
+    let refusal = bound(sheet).err();
+    assert_eq!(list(sheet).err(), refusal);
+    assert_eq!(check(sheet, &ForeignPlan::default()).err(), refusal.or(Some(Refusal::of_all(WRONG_ROWS))));
     assert_eq!(choose(sheet, u32::MAX).err(), refusal);
     assert_eq!(choose(sheet, 0).err(), refusal.or(Some(Refusal::of_all(WISH_TOO_EARLY))));
     assert_eq!(Watched::start(sheet, [usize::MAX; 3]).err(), refusal);
@@ -33,8 +36,8 @@ fn refused_timetable(change: impl Fn(&mut Timetable, &mut Vec<u32>, &mut Orders)
     refused(&sheet)
 }
 
-fn many_orders() -> Orders {
-    let column = vec![0; MOST_ORDERS + 1];
+fn orders(count: usize) -> Orders {
+    let column = vec![0; count];
     Orders { release: column.clone(), due: column.clone(), weight: column }
 }
 
@@ -92,5 +95,19 @@ fn timetable_sheets_are_tested() {
     assert_eq!(refused_timetable(|_, _, orders| orders.push(0, 0, 1)), Some(TOO_FEW_PLACES), "one place too few");
     assert_eq!(refused_timetable(|_, capacity, _| capacity[1] = 3), None, "one place to spare");
     assert_eq!(refused_timetable(|_, capacity, _| capacity.fill(MOST_CAPACITY)), None);
-    assert_eq!(refused_timetable(|_, _, orders| *orders = many_orders()), Some(TOO_MANY));
+    assert_eq!(refused_timetable(|_, _, given| *given = orders(MOST_ORDERS + 1)), Some(TOO_MANY));
+}
+
+/// No call makes areas as large as such a sheet would need.
+#[test]
+fn far_beyond_the_limits() {
+    const MANY: usize = 1_000_000;
+    let refused = refused_windows(|windows, capacity, given| {
+        windows.running.resize(MANY, 1);
+        capacity.resize(MANY, u32::MAX);
+        *given = orders(MANY);
+    });
+    assert_eq!(refused, Some(TOO_MANY));
+    assert_eq!(refused_windows(|_, capacity, _| capacity.fill(u32::MAX)), Some(OUT_OF_RANGE));
+    assert_eq!(refused_timetable(|_, capacity, _| capacity.fill(u32::MAX)), Some(OUT_OF_RANGE));
 }

@@ -2,7 +2,7 @@ use native::draw::{big, small};
 use native::ladder::{ladder_timetable, ladder_windows, short_ladder_timetable, short_ladder_windows, Ladder};
 use native::limits::{MOST_CAPACITY, MOST_ORDERS, MOST_TRAINS};
 use native::plan::{Listing, Pair};
-use native::planner::{choose, list, most_rounds};
+use native::planner::{bound, choose, list};
 use native::refusal::{Refusal, NO_SCHEDULE, WISH_TOO_EARLY};
 use native::rng::Rng;
 use native::sheet::{Sheet, FORMS};
@@ -62,7 +62,7 @@ fn short_ladders() {
         for sheet in sheets {
             check_rounds(&sheet);
             let rounds = list(&sheet).expect("a ladder has a plan").rounds;
-            assert!(stir > 0 || rounds == most_rounds(&sheet), "{rounds} {sheet:?}");
+            assert!(stir > 0 || Ok(rounds) == bound(&sheet), "{rounds} {sheet:?}");
         }
     }
 }

@@ -7,7 +7,7 @@ use native::every_plan::plan_count;
 use native::limits::MOST_CAPACITY;
 use native::listing::schedules;
 use native::plan::{Pair, Plan};
-use native::planner::{choose, list};
+use native::planner::{bound, choose, list};
 use native::print::print;
 use native::reader::{order_name, read};
 use native::refusal::*;
@@ -31,6 +31,7 @@ fn with_place(sheet: &Sheet, more: bool) -> Option<Sheet> {
 
 /// Every call refuses a sheet with too few places, and so does the reader its text.
 fn check_too_few(sheet: &Sheet) {
+    assert_eq!(bound(sheet), Err(TOO_FEW), "{sheet:?}");
     assert_eq!(list(sheet), Err(TOO_FEW), "{sheet:?}");
     assert_eq!(choose(sheet, u32::MAX), Err(TOO_FEW), "{sheet:?}");
     assert_eq!(check(sheet, &ForeignPlan::default()), Err(TOO_FEW), "{sheet:?}");
@@ -127,7 +128,7 @@ fn empty_trains_of_drawn_sheets() {
 fn check_loading(sheet: &Sheet) -> usize {
     let mut search = Search::start(sheet);
     let mut left_empty = 0;
-    while search.goes_on(sheet) {
+    while search.goes_on() {
         let latest = search.latest.clone();
         search.round(sheet);
         let train = &search.train;

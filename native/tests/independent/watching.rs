@@ -7,7 +7,7 @@ use native::draw::{big, drawn_size, small};
 use native::finality::is_later;
 use native::ladder::{ladder_timetable, ladder_windows, Ladder};
 use native::plan::{time_numbers, Pair};
-use native::planner::{put_first, Counts};
+use native::planner::{figure, put_first, Counts};
 use native::reader::read;
 use native::refusal::*;
 use native::rng::Rng;
@@ -34,7 +34,7 @@ fn guarded([pairs, train_of_order, times]: [usize; 3]) -> SearchAreas {
 
 /// A search with its sheet and its areas.
 #[derive(Clone, Debug, PartialEq, Eq)]
-struct Run<'a> {
+pub struct Run<'a> {
     sheet: &'a Sheet,
     areas: SearchAreas,
     search: Watched,
@@ -42,18 +42,18 @@ struct Run<'a> {
 
 impl Run<'_> {
     /// With areas that are so much longer than needed.
-    fn start(sheet: &Sheet, spare: [usize; 3]) -> Run<'_> {
+    pub fn start(sheet: &Sheet, spare: [usize; 3]) -> Run<'_> {
         let (n, q) = sheet.size();
-        let lengths = [n * q + spare[0], n + spare[1], 3 * q + spare[2]];
+        let lengths = [figure(sheet) + spare[0], n + spare[1], 3 * q + spare[2]];
         Run { sheet, areas: guarded(lengths), search: Watched::start(sheet, lengths).expect("an admitted sheet") }
     }
 
-    fn round(&mut self) -> Said {
+    pub fn round(&mut self) -> Said {
         self.search.round(self.sheet, &mut self.areas)
     }
 
     /// A look changes nothing.
-    fn look(&self) -> Vec<Pair> {
+    pub fn look(&self) -> Vec<Pair> {
         let before = self.clone();
         let pairs = self.search.look(&self.areas.pairs).to_vec();
         assert_eq!(*self, before);
@@ -61,7 +61,7 @@ impl Run<'_> {
     }
 
     /// At the end the areas hold the unbroken search's list and last plan, and guards behind them.
-    fn holds(&self, recorded: &Recorded) -> bool {
+    pub fn holds(&self, recorded: &Recorded) -> bool {
         let SearchAreas { pairs, train_of_order, times } = &self.areas;
         let mut areas = guarded([pairs.len(), train_of_order.len(), times.len()]);
         put_first(&recorded.listing().pairs, &mut areas.pairs);
@@ -78,16 +78,16 @@ fn case_a_call_by_call() {
     let list = [Pair { arrival: 110, lateness: 150 }, Pair { arrival: 130, lateness: 70 }];
     let mut run = Run::start(&sheet, [1, 1, 1]);
     assert_eq!(run.look(), []);
-    assert_eq!(run.areas, guarded([7, 4, 7]));
+    assert_eq!(run.areas, guarded([3, 4, 7]));
     assert_eq!(run.round(), Said::GoesOn);
     assert_eq!(run.look(), list[..1]);
-    assert_eq!(run.areas.pairs, [&list[..1], &[GUARD_PAIR; 6]].concat());
+    assert_eq!(run.areas.pairs, [&list[..1], &[GUARD_PAIR; 2]].concat());
     assert_eq!(run.areas.train_of_order, [1, 2, 2, GUARD_TRAIN]);
     assert_eq!(run.areas.times, [0, 30, 1, 90, 110, 1, GUARD_TIME]);
     for _ in 0..4 {
         assert_eq!(run.round(), ended(2, 2));
         assert_eq!(run.look(), list);
-        assert_eq!(run.areas.pairs, [&list[..], &[GUARD_PAIR; 5]].concat());
+        assert_eq!(run.areas.pairs, [&list[..], &[GUARD_PAIR]].concat());
         assert_eq!(run.areas.train_of_order, [2, 1, 2, GUARD_TRAIN]);
         assert_eq!(run.areas.times, [40, 70, 1, 100, 130, 1, GUARD_TIME]);
     }
@@ -123,26 +123,26 @@ fn cases_a_to_i() {
     check_calls(&i, &[&[(120, 180)], &[(120, 180)]], ended(1, 2));
 }
 
-/// Three orders and two trains: six pairs, three trains and six numbers of times are long enough, and one fewer of any is not. A sheet without a schedule
-/// is started: 8 comes from the first round.
+/// Case a: two pairs, three trains and six numbers of times are long enough, and one fewer of any is not. A sheet without a schedule is started: 8 comes
+/// from the first round.
 #[test]
 fn refused_starts() {
     let good = sheet_of(CASE_A);
     for (sheet, lengths, number) in [
         (&too_few_places(), [0, 0, 0], Some(TOO_FEW_PLACES)),
         (&too_few_places(), [6, 3, 6], Some(TOO_FEW_PLACES)),
-        (&good, [5, 3, 6], Some(AREA_TOO_SHORT)),
+        (&good, [1, 3, 6], Some(AREA_TOO_SHORT)),
         (&good, [0, 3, 6], Some(AREA_TOO_SHORT)),
-        (&good, [6, 2, 6], Some(AREA_TOO_SHORT)),
-        (&good, [6, 0, 6], Some(AREA_TOO_SHORT)),
-        (&good, [6, 3, 5], Some(AREA_TOO_SHORT)),
-        (&good, [6, 3, 0], Some(AREA_TOO_SHORT)),
+        (&good, [2, 2, 6], Some(AREA_TOO_SHORT)),
+        (&good, [2, 0, 6], Some(AREA_TOO_SHORT)),
+        (&good, [2, 3, 5], Some(AREA_TOO_SHORT)),
+        (&good, [2, 3, 0], Some(AREA_TOO_SHORT)),
         (&good, [0, 0, 0], Some(AREA_TOO_SHORT)),
-        (&late(), [5, 3, 6], Some(AREA_TOO_SHORT)),
-        (&late(), [6, 2, 6], Some(AREA_TOO_SHORT)),
-        (&late(), [6, 3, 5], Some(AREA_TOO_SHORT)),
-        (&late(), [6, 3, 6], None),
-        (&good, [6, 3, 6], None),
+        (&late(), [1, 3, 6], Some(AREA_TOO_SHORT)),
+        (&late(), [2, 2, 6], Some(AREA_TOO_SHORT)),
+        (&late(), [2, 3, 5], Some(AREA_TOO_SHORT)),
+        (&late(), [2, 3, 6], None),
+        (&good, [2, 3, 6], None),
         (&good, [9, 9, 9], None),
     ] {
         let refusal = Watched::start(sheet, lengths).err();
@@ -186,10 +186,10 @@ impl Met {
     /// The rounds to the end, whose reply is given, with a look behind each: what was seen before stays, and `lists` has what is to be seen if that is
     /// known.
     fn check_rounds(&mut self, run: &mut Run, lists: Option<&[Vec<Pair>]>) -> (Said, usize) {
-        let (n, q) = run.sheet.size();
+        let most = figure(run.sheet);
         let mut read = run.look();
         assert_eq!(read, []);
-        for round in 1..=n * q {
+        for round in 1..=most {
             let said = run.round();
             let seen = run.look();
             assert!(is_later(&read, &seen), "{read:?} {seen:?} {:?}", run.sheet);
@@ -200,7 +200,7 @@ impl Met {
             }
             read = seen;
         }
-        panic!("no end within {} rounds: {:?}", n * q, run.sheet);
+        panic!("no end within {most} rounds: {:?}", run.sheet);
     }
 
     /// The whole search by single rounds is the unbroken one, and stays as it is at its end.

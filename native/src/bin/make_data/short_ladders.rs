@@ -4,7 +4,7 @@ use crate::drawn::{best_of, N, Q};
 use crate::store::Store;
 use native::ladder::{short_ladder_timetable, short_ladder_windows, Ladder};
 use native::limits::MOST_CAPACITY;
-use native::planner::{list, most_rounds};
+use native::planner::{bound, list};
 use native::rng::Rng;
 
 /// The most rounds that a sheet within the limits can have.
@@ -30,7 +30,7 @@ fn most_rounds_of_all(store: &mut Store, rng: &mut Rng) {
     let of_one = short_ladder_windows(rng, N, four_hold_all(8, 1), ladder, ladder.release);
     for (name, sheet) in [("trains-of-64-timetable", of_64), ("trains-of-one-window", of_one)] {
         let rounds = list(&sheet).map(|listing| listing.rounds);
-        assert_eq!((rounds, most_rounds(&sheet)), (Ok(MOST_ROUNDS), MOST_ROUNDS));
+        assert_eq!((rounds, bound(&sheet)), (Ok(MOST_ROUNDS), Ok(MOST_ROUNDS)));
         store.planned_sheet(&format!("short-most-rounds-{name}"), &sheet);
     }
 }
