@@ -12,6 +12,7 @@ pub mod draw;
 pub mod every_plan;
 pub mod finality;
 pub mod foreign;
+pub mod full_list;
 pub mod ladder;
 pub mod limits;
 pub mod line;

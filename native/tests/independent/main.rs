@@ -8,6 +8,7 @@ mod judge;
 mod listing;
 mod memory;
 mod printing;
+mod reached;
 mod reading;
 mod rounds;
 mod schedules;

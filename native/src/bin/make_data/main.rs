@@ -7,6 +7,7 @@
 mod by_hand;
 mod bytes;
 mod drawn;
+mod full_lists;
 mod limits;
 mod parts;
 mod searched;
@@ -33,6 +34,7 @@ fn main() {
     bytes::store_all(&mut store);
     drawn::store_any(&mut store);
     short::store_all(&mut store);
+    full_lists::store_all(&mut store);
     match args.get(1) {
         Some(folder) => store.given(Path::new(folder)),
         None => store.given_before(),
