@@ -5,6 +5,7 @@
  */
 #include <inttypes.h>
 #include <stdio.h>
+#include <stdlib.h>
 
 #include "joshkamber.h"
 
@@ -48,10 +49,8 @@ static const int64_t *as_good(joshkamber_check check, const int64_t *pairs) {
 }
 
 /* Says of a plan what the call says; fails if a schedule is not listed and the area has no better pair. */
-static int check(const plan *brought) {
-    int64_t pairs[2 * ORDERS * TRAINS];
-    joshkamber_check check =
-        joshkamber_check_windows(case_a, brought->departures, TRAINS, brought->rows, ORDERS, pairs, 2 * ORDERS * TRAINS);
+static int check(const plan *brought, int64_t *pairs, size_t length) {
+    joshkamber_check check = joshkamber_check_windows(case_a, brought->departures, TRAINS, brought->rows, ORDERS, pairs, length);
 
     printf("%s: ", brought->name);
     if (check.cause.number != 0) {
@@ -71,8 +70,12 @@ static int check(const plan *brought) {
 }
 
 int main(void) {
-    for (size_t k = 0; k < sizeof plans / sizeof *plans; k++)
-        if (check(&plans[k]) != 0)
-            return 1;
-    return 0;
+    size_t length = 2 * joshkamber_bound_windows(case_a).most; /* just what the list may need */
+    int64_t *pairs = malloc(length * sizeof *pairs);
+    int status = pairs == NULL;
+
+    for (size_t k = 0; status == 0 && k < sizeof plans / sizeof *plans; k++)
+        status = check(&plans[k], pairs, length);
+    free(pairs);
+    return status;
 }

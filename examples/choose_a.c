@@ -4,6 +4,7 @@
  */
 #include <inttypes.h>
 #include <stdio.h>
+#include <stdlib.h>
 
 #include "joshkamber.h"
 
@@ -37,9 +38,9 @@ static void choose(uint32_t wish) {
     }
 }
 
-int main(void) {
-    int64_t pairs[2 * ORDERS * TRAINS];
-    joshkamber_listing list = joshkamber_list_windows(case_a, pairs, 2 * ORDERS * TRAINS);
+/* Picks each listed pair in turn, and then an arrival that is too early. */
+static int pick(int64_t *pairs, size_t length) {
+    joshkamber_listing list = joshkamber_list_windows(case_a, pairs, length);
 
     if (list.cause.number != 0)
         return 1;
@@ -49,4 +50,13 @@ int main(void) {
     }
     choose((uint32_t)pairs[0] - 1);
     return 0;
+}
+
+int main(void) {
+    size_t length = 2 * joshkamber_bound_windows(case_a).most; /* just what the list may need */
+    int64_t *pairs = malloc(length * sizeof *pairs);
+    int status = pairs == NULL ? 1 : pick(pairs, length);
+
+    free(pairs);
+    return status;
 }

@@ -5,21 +5,24 @@
  */
 #include <inttypes.h>
 #include <stdio.h>
+#include <stdlib.h>
 
 #include "joshkamber.h"
 
 /* Long enough for every sheet. */
 enum {
     TEXT_LENGTH = 65536,
-    PAIRS_LENGTH = 2 * JOSHKAMBER_MOST_ORDERS * JOSHKAMBER_MOST_TRAINS,
     TRAINS_LENGTH = JOSHKAMBER_MOST_ORDERS,
     TIMES_LENGTH = 3 * JOSHKAMBER_MOST_TRAINS
 };
 
 static uint8_t text[TEXT_LENGTH];
-static int64_t pairs[PAIRS_LENGTH];
 static uint8_t train_of_order[TRAINS_LENGTH];
 static uint32_t times[TIMES_LENGTH];
+
+/* Just long enough for the sheet. */
+static int64_t *pairs;
+static size_t pairs_length;
 
 /* What is shown of the list: how many pairs, and the last one's lateness and how often it was replaced. */
 typedef struct {
@@ -36,7 +39,7 @@ static void show_final(const shown *list) {
 
 /* Looks at the list after a round. */
 static void show_round(shown *list, joshkamber_state state) {
-    size_t seen = joshkamber_look(state, pairs, PAIRS_LENGTH);
+    size_t seen = joshkamber_look(state, pairs, pairs_length);
 
     if (seen == 0)
         return;
@@ -68,6 +71,25 @@ static int refused(joshkamber_cause cause) {
     return cause.number != 0;
 }
 
+/* Makes the whole search, and gives 1 where it is refused. */
+static int watch(const joshkamber_window_sheet *sheet) {
+    joshkamber_start start = joshkamber_start_windows(*sheet, pairs, pairs_length, train_of_order, TRAINS_LENGTH, times, TIMES_LENGTH);
+    if (refused(start.cause))
+        return 1;
+
+    shown list = {0, 0, 0};
+    joshkamber_round round = {.state = start.state};
+    while (!round.ended) {
+        round = joshkamber_round_windows(round.state, *sheet, pairs, pairs_length, train_of_order, TRAINS_LENGTH, times, TIMES_LENGTH);
+        show_round(&list, round.state);
+    }
+    if (refused(round.cause))
+        return 1;
+    show_final(&list);
+    printf("ended with %zu pairs after %zu rounds\n", round.pairs, round.rounds);
+    return 0;
+}
+
 int main(int count, char **arguments) {
     if (count != 2) {
         fprintf(stderr, "usage: watch_hard SHEET\n");
@@ -76,20 +98,13 @@ int main(int count, char **arguments) {
     joshkamber_windows_read read = joshkamber_read_windows(text, read_file(arguments[1]));
     if (refused(read.cause))
         return 1;
-    joshkamber_start start =
-        joshkamber_start_windows(read.sheet, pairs, PAIRS_LENGTH, train_of_order, TRAINS_LENGTH, times, TIMES_LENGTH);
-    if (refused(start.cause))
+    joshkamber_bound bound = joshkamber_bound_windows(read.sheet);
+    if (refused(bound.cause))
         return 1;
+    pairs_length = 2 * bound.most;
+    pairs = malloc(pairs_length * sizeof *pairs);
+    int status = pairs == NULL ? 1 : watch(&read.sheet);
 
-    shown list = {0, 0, 0};
-    joshkamber_round round = {.state = start.state};
-    while (!round.ended) {
-        round = joshkamber_round_windows(round.state, read.sheet, pairs, PAIRS_LENGTH, train_of_order, TRAINS_LENGTH, times, TIMES_LENGTH);
-        show_round(&list, round.state);
-    }
-    if (refused(round.cause))
-        return 1;
-    show_final(&list);
-    printf("ended with %zu pairs after %zu rounds\n", round.pairs, round.rounds);
-    return 0;
+    free(pairs);
+    return status;
 }

@@ -1,6 +1,6 @@
-/* Searches that are watched, as a caller from C may have them: lists of calls in areas of exactly the length needed, in too short ones, from
- * damaged states and on damaged sheets, of both forms, with and without places to spare. Each call must return, keep to the areas, and answer as
- * include/joshkamber.h says. The areas are malloced, or lie against a page that may not be touched: the library itself is not built for the
+/* Searches that are watched, as a caller from C may have them: lists of calls in areas of exactly the length that the library says beforehand, in too
+ * short ones, from damaged states and on damaged sheets, of both forms, with and without places to spare. Each call must return, keep to the areas, and
+ * answer as include/joshkamber.h says. The areas are malloced, or lie against a page that may not be touched: the library itself is not built for the
  * sanitisers.
  *
  *    cc -g -fsanitize=address,undefined -I include tests/watching.c target/staticlib/libcapi.a -o watching && ./watching
@@ -35,7 +35,7 @@ static void wrong(int line, const char *what) {
 
 /* What was met, to be told at the end. */
 static struct {
-    size_t sheets, to_spare, empty_train, calls, looks, going, ended, refused, no_search, starts_refused, too_few_places;
+    size_t sheets, to_spare, empty_train, calls, bounds, bounds_refused, looks, going, ended, refused, no_search, starts_refused, too_few_places;
 } met;
 
 /* ---- drawn numbers: splitmix64 with a fixed seed */
@@ -55,14 +55,6 @@ static uint32_t within(uint32_t low, uint32_t high) {
 
 static bool one_in(uint32_t times) {
     return within(1, times) == 1;
-}
-
-/* A number at an end of some range of a sheet of n orders and q trains, or beside one. */
-static size_t edge(size_t n, size_t q) {
-    const size_t edges[] = {0, 1, n - 1, n, n + 1, q - 1, q, q + 1, n * q - 1, n * q, n * q + 1, MOST_TRAINS, MOST_TRAINS + 1, MOST_WINDOWS,
-                            MOST_WINDOWS + 1, MOST_ORDERS, MOST_ORDERS + 1, UINT8_MAX, UINT8_MAX + 1, UINT32_MAX, (size_t)UINT32_MAX + 1,
-                            (size_t)UINT32_MAX + 1 + n, SIZE_MAX / 2, SIZE_MAX / 2 + 1, SIZE_MAX / 16, SIZE_MAX - 1, SIZE_MAX};
-    return edges[bits() % (sizeof edges / sizeof *edges)];
 }
 
 /* ---- sheets of both forms */
@@ -85,13 +77,44 @@ static const uint32_t *capacities_of(const sheet *s) {
     return s->fixed ? s->timetable.capacity : s->windows.capacity;
 }
 
-/* Of a sheet with no more trains than allowed. */
-static size_t places_of(const sheet *s) {
+/* The places of the first `trains` trains, which are no more than allowed. */
+static size_t places_to(const sheet *s, size_t trains) {
     size_t places = 0;
 
-    for (size_t i = 0; i < trains_of(s); i++)
+    for (size_t i = 0; i < trains; i++)
         places += capacities_of(s)[i];
     return places;
+}
+
+/* How long the list may be, added up here: 1 and, for each train but the last, the places up to it, or the orders if these are fewer. */
+static size_t figure_of(const sheet *s) {
+    size_t figure = 1, n = orders_of(s);
+
+    for (size_t i = 1; i < trains_of(s); i++)
+        figure += places_to(s, i) < n ? places_to(s, i) : n;
+    return figure;
+}
+
+/* A number at an end of some range of a sheet, or beside one. */
+static size_t edge(const sheet *s) {
+    size_t n = orders_of(s), q = trains_of(s), most = figure_of(s);
+    const size_t edges[] = {0, 1, n - 1, n, n + 1, q - 1, q, q + 1, most - 1, most, most + 1, n * q, MOST_TRAINS, MOST_TRAINS + 1, MOST_WINDOWS,
+                            MOST_WINDOWS + 1, MOST_ORDERS, MOST_ORDERS + 1, UINT8_MAX, UINT8_MAX + 1, UINT32_MAX, (size_t)UINT32_MAX + 1,
+                            (size_t)UINT32_MAX + 1 + n, SIZE_MAX / 2, SIZE_MAX / 2 + 1, SIZE_MAX / 16, SIZE_MAX - 1, SIZE_MAX};
+    return edges[bits() % (sizeof edges / sizeof *edges)];
+}
+
+/* What the library says of it. */
+static joshkamber_bound bound(const sheet *s) {
+    joshkamber_bound said = s->fixed ? joshkamber_bound_timetable(s->timetable) : joshkamber_bound_windows(s->windows);
+    size_t number = said.cause.number;
+
+    MUST(number == 0 || number == OUT_OF_RANGE || (number >= TOO_MANY && number <= TOO_FEW_PLACES));
+    MUST(said.cause.returned == 0);
+    MUST(said.most == (number == 0 ? figure_of(s) : 0));
+    met.bounds++;
+    met.bounds_refused += number != 0;
+    return said;
 }
 
 static void draw_capacities(uint32_t *capacity, size_t places, size_t q) {
@@ -215,14 +238,22 @@ static void give_back(area *a) {
         MUST(munmap(a->block, a->block_size) == 0);
 }
 
-/* The length that a sheet of n orders and q trains needs. */
-static size_t needed(int k, size_t n, size_t q) {
-    return k == PAIRS ? 2 * n * q : k == TRAINS ? n : 3 * q;
+/* The length that a sheet needs. */
+static size_t needed(int k, const sheet *s) {
+    return k == PAIRS ? 2 * bound(s).most : k == TRAINS ? orders_of(s) : 3 * trains_of(s);
 }
 
 static void lend_all(areas *lent, const sheet *s) {
     for (int k = 0; k < AREAS; k++)
-        lend(&lent->of[k], needed(k, orders_of(s), trains_of(s)), element[k]);
+        lend(&lent->of[k], needed(k, s), element[k]);
+}
+
+static bool have_room(const areas *lent, const sheet *s) {
+    bool room = true;
+
+    for (int k = 0; k < AREAS; k++)
+        room = lent->of[k].length >= needed(k, s) && room;
+    return room;
 }
 
 static void give_back_all(areas *lent) {
@@ -291,17 +322,32 @@ static joshkamber_start start(const sheet *s, areas *lent) {
                                               times_in(lent), a[TIMES].length)
                  : joshkamber_start_windows(s->windows, pairs_in(lent), a[PAIRS].length, trains_in(lent), a[TRAINS].length, times_in(lent),
                                             a[TIMES].length);
-    size_t number = begun.cause.number;
+    size_t number = begun.cause.number, of_sheet = bound(s).cause.number;
     MUST(as_found(lent));
-    MUST(number == 0 || number == OUT_OF_RANGE || (number >= TOO_MANY && number <= TOO_FEW_PLACES) || number == AREA_TOO_SHORT);
+    MUST(number == (of_sheet != 0 ? of_sheet : have_room(lent, s) ? 0 : AREA_TOO_SHORT));
     MUST(begun.cause.returned == 0);
     MUST(number == 0 || same_state(&begun.state, &no_state));
     if (number == 0 || number == TOO_FEW_PLACES || number == AREA_TOO_SHORT)
-        MUST((number == TOO_FEW_PLACES) == (places_of(s) < orders_of(s)));
+        MUST((number == TOO_FEW_PLACES) == (places_to(s, trains_of(s)) < orders_of(s)));
     met.calls++;
     met.starts_refused += number != 0;
     met.too_few_places += number == TOO_FEW_PLACES;
     return begun;
+}
+
+/* Only the front of the pairs area is written, and nothing where the call refuses. */
+static joshkamber_listing list(const sheet *s, areas *lent) {
+    const area *a = &lent->of[PAIRS];
+
+    keep(lent);
+    joshkamber_listing said = s->fixed ? joshkamber_list_timetable(s->timetable, pairs_in(lent), a->length)
+                                       : joshkamber_list_windows(s->windows, pairs_in(lent), a->length);
+    MUST(said.cause.returned == 0);
+    MUST(said.cause.number == 0 || (said.pairs == 0 && said.rounds == 0 && as_found(lent)));
+    MUST(said.pairs <= said.rounds && 2 * said.pairs <= a->length);
+    MUST(as_found_from(a, 2 * said.pairs, element[PAIRS]));
+    met.calls++;
+    return said;
 }
 
 static joshkamber_round call_round(joshkamber_state state, const sheet *s, const areas *lent) {
@@ -404,12 +450,11 @@ static void check_end(const joshkamber_round *said, const sheet *s, const areas 
     areas own;
     lend_all(&own, s);
     area *a = own.of;
-    joshkamber_listing list = s->fixed ? joshkamber_list_timetable(s->timetable, pairs_in(&own), a[PAIRS].length)
-                                       : joshkamber_list_windows(s->windows, pairs_in(&own), a[PAIRS].length);
+    joshkamber_listing listed = list(s, &own);
 
-    MUST(said->cause.number == list.cause.number && said->pairs == list.pairs && said->rounds == list.rounds);
-    if (list.pairs > 0) {
-        uint32_t wish = (uint32_t)pairs_in(&own)[2 * (list.pairs - 1)];
+    MUST(said->cause.number == listed.cause.number && said->pairs == listed.pairs && said->rounds == listed.rounds);
+    if (listed.pairs > 0) {
+        uint32_t wish = (uint32_t)pairs_in(&own)[2 * (listed.pairs - 1)];
         joshkamber_choice choice =
             s->fixed
                 ? joshkamber_choose_timetable(s->timetable, wish, trains_in(&own), a[TRAINS].length, times_in(&own), a[TIMES].length)
@@ -426,14 +471,14 @@ static void check_end(const joshkamber_round *said, const sheet *s, const areas 
 static void whole_search(const sheet *s, areas *lent) {
     joshkamber_start begun = start(s, lent);
     joshkamber_round said = {.state = begun.state};
-    size_t rounds = 0, before = 0;
+    size_t rounds = 0, before = 0, most = bound(s).most;
 
     MUST(begun.cause.number == 0 && look(begun.state, lent) == 0);
     while (!said.ended) {
         said = make_round(said.state, s, lent);
         check_final(before, said.state.pairs, lent);
         before = said.state.pairs;
-        MUST(said.state.rounds == ++rounds && rounds <= orders_of(s) * trains_of(s));
+        MUST(said.state.rounds == ++rounds && rounds <= most);
         if (one_in(3))
             MUST(look(said.state, lent) == before);
     }
@@ -461,6 +506,7 @@ static void check_short(joshkamber_state state, const sheet *s, areas *lent) {
     joshkamber_round said = make_round(state, s, lent);
 
     MUST(is_no_search(&said) && start(s, lent).cause.number == AREA_TOO_SHORT);
+    MUST((list(s, lent).cause.number == AREA_TOO_SHORT) == (lent->of[PAIRS].length < needed(PAIRS, s)));
     look(state, lent);
 }
 
@@ -483,8 +529,8 @@ static void short_areas(const sheet *s, areas *lent) {
 
 /* ---- damaged states */
 
-static void damage_field(joshkamber_state *state, size_t n, size_t q) {
-    size_t j = bits() % n, value = edge(n, q);
+static void damage_field(joshkamber_state *state, const sheet *s) {
+    size_t j = bits() % orders_of(s), value = edge(s);
 
     switch (within(0, 6)) {
     case 0: state->pairs = value; break;
@@ -503,53 +549,53 @@ static void damage_bytes(joshkamber_state *state, size_t count) {
 }
 
 /* A state from which a round can be made, but none of this search: the orders' latest trains, limit, counts and last arrival are changed. */
-static void damage_unseen(joshkamber_state *state, size_t n, size_t q) {
-    state->rounds = bits() % (n * q);
+static void damage_unseen(joshkamber_state *state, const sheet *s) {
+    state->rounds = bits() % figure_of(s);
     state->pairs = state->rounds == 0 ? 0 : bits() % (state->rounds + 1);
     state->limit = one_in(3) ? INT64_MAX : one_in(2) ? INT64_MIN : (int64_t)within(0, 400) - 200;
     state->last = one_in(2) ? (uint32_t)bits() : state->last;
     state->ended = 0;
-    memset(state->latest, one_in(2) ? (int)q : state->latest[0], n);
+    memset(state->latest, one_in(2) ? (int)trains_of(s) : state->latest[0], orders_of(s));
 }
 
 /* `other` is a state of another sheet. */
-static void damage(joshkamber_state *state, const joshkamber_state *other, size_t n, size_t q) {
+static void damage(joshkamber_state *state, const joshkamber_state *other, const sheet *s) {
     switch (within(0, 7)) {
     case 0: damage_bytes(state, 20 * sizeof *state); break;
     case 1: *state = no_state; break;
     case 2: *state = *other; break;
     case 3: damage_bytes(state, within(1, 4)); break;
-    case 4: damage_unseen(state, n, q); break;
-    case 5: damage_field(state, n, q); /* two fields */
+    case 4: damage_unseen(state, s); break;
+    case 5: damage_field(state, s); /* two fields */
     /* fall through */
-    default: damage_field(state, n, q); break;
+    default: damage_field(state, s); break;
     }
 }
 
 /* Calls go on from a damaged state and come to an end. */
 static void damaged_states(const sheet *s, areas *lent, const joshkamber_state *other) {
-    size_t n = orders_of(s), q = trains_of(s);
+    size_t most = bound(s).most;
 
     for (int turn = 0; turn < 24; turn++) {
         joshkamber_state state = some_state(s, lent);
-        damage(&state, other, n, q);
+        damage(&state, other, s);
         size_t rounds = 0;
         joshkamber_round said;
         do {
             look(state, lent);
             said = make_round(state, s, lent);
-            if (same_state(&state, &no_state) || state.rounds > n * q)
+            if (same_state(&state, &no_state) || state.rounds > most)
                 MUST(is_no_search(&said));
             state = said.state;
-            MUST(rounds++ <= n * q);
+            MUST(rounds++ <= most);
         } while (!said.ended);
     }
 }
 
 /* ---- damaged sheets */
 
-static void damage_windows(joshkamber_window_sheet *s, size_t n, size_t q) {
-    size_t value = edge(n, q), at = bits() % 32;
+static void damage_windows(joshkamber_window_sheet *s, size_t value) {
+    size_t at = bits() % 32;
 
     switch (within(0, 9)) {
     case 0: s->gap = (uint32_t)value; break;
@@ -557,37 +603,35 @@ static void damage_windows(joshkamber_window_sheet *s, size_t n, size_t q) {
     case 3: case 4: s->train_count = value; break;
     case 5: case 6: s->order_count = value; break;
     case 7: s->window_to[at % s->window_count] = (uint32_t)value; break;
-    case 8: s->capacity[at % q] = (uint32_t)value; break;
-    default: s->release[at % n] = (uint32_t)value; break;
+    case 8: s->capacity[at % s->train_count] = (uint32_t)value; break;
+    default: s->release[at % s->order_count] = (uint32_t)value; break;
     }
 }
 
-static void damage_timetable(joshkamber_timetable_sheet *s, size_t n, size_t q) {
-    size_t value = edge(n, q), at = bits() % 32;
+static void damage_timetable(joshkamber_timetable_sheet *s, size_t value) {
+    size_t at = bits() % 32;
 
     switch (within(0, 7)) {
     case 0: case 1: s->train_count = value; break;
     case 2: case 3: s->order_count = value; break;
-    case 4: s->capacity[at % q] = (uint32_t)value; break;
-    case 5: s->arrival[at % q] = (uint32_t)value; break;
-    case 6: s->departure[at % q] = (uint32_t)value; break;
-    default: s->weight[at % n] = (uint32_t)value; break;
+    case 4: s->capacity[at % s->train_count] = (uint32_t)value; break;
+    case 5: s->arrival[at % s->train_count] = (uint32_t)value; break;
+    case 6: s->departure[at % s->train_count] = (uint32_t)value; break;
+    default: s->weight[at % s->order_count] = (uint32_t)value; break;
     }
 }
 
 /* A round on a sheet that a start refuses is told as no search. */
 static void damaged_sheets(const sheet *s, areas *lent, const joshkamber_state *other) {
-    size_t n = orders_of(s), q = trains_of(s);
-
     for (int turn = 0; turn < 16; turn++) {
         joshkamber_state state = some_state(s, lent);
         sheet spoiled = *s;
         if (s->fixed)
-            damage_timetable(&spoiled.timetable, n, q);
+            damage_timetable(&spoiled.timetable, edge(s));
         else
-            damage_windows(&spoiled.windows, n, q);
+            damage_windows(&spoiled.windows, edge(s));
         if (one_in(4))
-            damage(&state, other, n, q);
+            damage(&state, other, s);
         bool refused = start(&spoiled, lent).cause.number != 0;
         joshkamber_round said = make_round(state, &spoiled, lent);
         MUST(is_no_search(&said) || !refused);
@@ -601,6 +645,7 @@ static void check_layout(void) {
     MUST(sizeof(joshkamber_state) == 432);
     MUST(offsetof(joshkamber_state, limit) == 16 && offsetof(joshkamber_state, last) == 24 && offsetof(joshkamber_state, ended) == 28);
     MUST(offsetof(joshkamber_state, order) == 29 && offsetof(joshkamber_state, latest) == 229);
+    MUST(sizeof(joshkamber_bound) == 24 && offsetof(joshkamber_bound, most) == 16);
     MUST(sizeof(joshkamber_start) == 448 && offsetof(joshkamber_start, state) == 16);
     MUST(sizeof(joshkamber_round) == 472 && offsetof(joshkamber_round, ended) == 16 && offsetof(joshkamber_round, pairs) == 24);
     MUST(offsetof(joshkamber_round, rounds) == 32 && offsetof(joshkamber_round, state) == 40);
@@ -631,11 +676,12 @@ int main(void) {
     for (int turn = 0; turn < 6; turn++)
         check_sheet(MOST_ORDERS);
     printf("watching: %zu calls on %zu sheets (%zu with places to spare, %zu with an empty train in the last plan): %zu looks, %zu starts refused (%zu "
-           "for want of places), %zu rounds that go on, %zu ends (%zu without a schedule), %zu told as no search\n",
+           "for want of places), %zu rounds that go on, %zu ends (%zu without a schedule), %zu told as no search; asked %zu times how long the list may "
+           "be, %zu of them refused\n",
            met.calls, met.sheets, met.to_spare, met.empty_train, met.looks, met.starts_refused, met.too_few_places, met.going, met.ended, met.refused,
-           met.no_search);
+           met.no_search, met.bounds, met.bounds_refused);
     MUST(met.going > 10000 && met.ended > 1000 && met.refused > 100 && met.no_search > 10000 && met.starts_refused > 1000);
     MUST(4 * met.to_spare > met.sheets && 4 * (met.sheets - met.to_spare) > met.sheets && 10 * met.empty_train > met.sheets);
-    MUST(met.too_few_places > 100);
+    MUST(met.too_few_places > 100 && met.bounds > 10000 && met.bounds_refused > 1000);
     return 0;
 }

@@ -3,6 +3,8 @@
 use crate::calls::Row;
 use native::checking::ForeignPlan;
 use native::plan::NUMBERS_A_TRAIN;
+use native::planner::figure;
+use native::sheet::Sheet;
 use std::hint::black_box;
 
 /// How many guards stand before the lent part, and how many behind it.
@@ -62,9 +64,14 @@ impl PairsArea {
         Area::new(length, i64::MIN)
     }
 
-    /// The least length for n orders and q trains.
-    pub fn least(n: usize, q: usize) -> usize {
-        2 * n * q
+    /// What so many pairs take.
+    pub fn length_of(pairs: usize) -> usize {
+        2 * pairs
+    }
+
+    /// The least length for a sheet, be it refused or not.
+    pub fn least(sheet: &Sheet) -> usize {
+        PairsArea::length_of(figure(sheet))
     }
 }
 
@@ -80,8 +87,9 @@ impl PlanAreas {
         PlanAreas { train_of_order: Area::new(train_of_order, u8::MAX), times: Area::new(times, u32::MAX) }
     }
 
-    /// The least lengths for n orders and q trains.
-    pub fn least(n: usize, q: usize) -> [usize; 2] {
+    /// The least lengths for a sheet.
+    pub fn least(sheet: &Sheet) -> [usize; 2] {
+        let (n, q) = sheet.size();
         [n, NUMBERS_A_TRAIN * q]
     }
 }
@@ -98,10 +106,10 @@ impl SearchAreas {
         SearchAreas { pairs: PairsArea::of_length(pairs), plan: PlanAreas::of_lengths([train_of_order, times]) }
     }
 
-    /// The least lengths for n orders and q trains.
-    pub fn least(n: usize, q: usize) -> [usize; 3] {
-        let [train_of_order, times] = PlanAreas::least(n, q);
-        [PairsArea::least(n, q), train_of_order, times]
+    /// The least lengths for a sheet.
+    pub fn least(sheet: &Sheet) -> [usize; 3] {
+        let [train_of_order, times] = PlanAreas::least(sheet);
+        [PairsArea::least(sheet), train_of_order, times]
     }
 
     pub fn lengths(&self) -> [usize; 3] {

@@ -64,6 +64,14 @@ pub struct NamePlace {
     pub length: usize,
 }
 
+/// No search of the sheet lists more pairs than `most`, nor makes more rounds; or the cause beside 0.
+#[repr(C)]
+#[derive(Clone, Copy, Debug, PartialEq, Eq)]
+pub struct Bound {
+    pub cause: Cause,
+    pub most: usize,
+}
+
 /// How many pairs are listed and how many rounds were made, or the cause beside 0 and 0.
 #[repr(C)]
 #[derive(Clone, Copy, Debug, PartialEq, Eq)]
@@ -141,6 +149,8 @@ extern "C" {
     fn joshkamber_read_timetable(text: *const u8, length: usize) -> TimetableRead;
     fn joshkamber_name_in_windows(text: *const u8, length: usize, order: usize) -> NamePlace;
     fn joshkamber_name_in_timetable(text: *const u8, length: usize, order: usize) -> NamePlace;
+    fn joshkamber_bound_windows(sheet: WindowSheet) -> Bound;
+    fn joshkamber_bound_timetable(sheet: TimetableSheet) -> Bound;
     fn joshkamber_list_windows(sheet: WindowSheet, pairs: *mut i64, pairs_length: usize) -> Listing;
     fn joshkamber_list_timetable(sheet: TimetableSheet, pairs: *mut i64, pairs_length: usize) -> Listing;
     fn joshkamber_choose_windows(
@@ -198,7 +208,19 @@ pub fn name_in_timetable(text: &[u8], order: usize) -> NamePlace {
     unsafe { joshkamber_name_in_timetable(text.as_ptr(), text.len(), order) }
 }
 
-/// Lists the pairs of a sheet of the window form. For n orders and q trains the area has at least 2 n q elements.
+/// How long the list of a sheet of the window form may be; no round is made.
+pub fn bound_windows(sheet: &WindowSheet) -> Bound {
+    // SAFETY: the call takes the sheet by value, tests it itself, and touches no other memory.
+    unsafe { joshkamber_bound_windows(*sheet) }
+}
+
+/// The same of a sheet of the timetable form.
+pub fn bound_timetable(sheet: &TimetableSheet) -> Bound {
+    // SAFETY: as in `bound_windows`.
+    unsafe { joshkamber_bound_timetable(*sheet) }
+}
+
+/// Lists the pairs of a sheet of the window form. The area has at least two elements for each pair that `bound_windows` tells of.
 pub fn list_windows(sheet: &WindowSheet, pairs: &mut [i64]) -> Listing {
     // SAFETY: the pointer is not null, valid for reads and writes of as many elements, and lent for this call alone. The call writes in no
     // other memory, keeps nothing, and tests the sheet and the length itself.
@@ -278,9 +300,8 @@ pub fn check_timetable(sheet: &TimetableSheet, departures: &[u32], rows: &[Row],
     }
 }
 
-/// Starts a search on a sheet of the window form, which is then moved by single rounds. For n orders and q trains the areas have at least 2 n q, n and
-/// 3 q elements; nothing but their lengths is asked for. Each call of a search is given the same sheet, the same areas, and the state that the call
-/// before gave back.
+/// Starts a search on a sheet of the window form, which is then moved by single rounds. The areas are as for `list_windows` and `choose_windows`; nothing
+/// but their lengths is asked for. Each call of a search is given the same sheet, the same areas, and the state that the call before gave back.
 pub fn start_windows(sheet: &WindowSheet, pairs: &[i64], train_of_order: &[u8], times: &[u32]) -> Start {
     // SAFETY: the three pointers are not null and valid for as many elements; the call only reads them, keeps nothing, and tests the sheet and the
     // lengths itself.

@@ -1,9 +1,9 @@
 //! Sheets as the exported calls take and give them, from and to the independent implementation's sheets.
 
 use crate::areas::{CheckAreas, PairsArea, PlanAreas, SearchAreas};
-use crate::calls::{check_timetable, check_windows, choose_timetable, choose_windows, list_timetable, list_windows};
-use crate::calls::{round_timetable, round_windows, start_timetable, start_windows};
-use crate::calls::{Check, Choice, Listing, Round, Start, State, TimetableSheet, WindowSheet};
+use crate::calls::{bound_timetable, bound_windows, check_timetable, check_windows, choose_timetable, choose_windows};
+use crate::calls::{list_timetable, list_windows, round_timetable, round_windows, start_timetable, start_windows};
+use crate::calls::{Bound, Check, Choice, Listing, Round, Start, State, TimetableSheet, WindowSheet};
 use native::sheet::{Orders, Paths, Sheet, Timetable, Windows};
 
 /// Stands behind the elements of a column, where it is not read. No sheet may have it.
@@ -16,6 +16,13 @@ pub enum ExportedSheet {
 }
 
 impl ExportedSheet {
+    pub fn bound(&self) -> Bound {
+        match self {
+            ExportedSheet::Windows(sheet) => bound_windows(sheet),
+            ExportedSheet::Timetable(sheet) => bound_timetable(sheet),
+        }
+    }
+
     pub fn list_in(&self, pairs: &mut PairsArea) -> Listing {
         match self {
             ExportedSheet::Windows(sheet) => list_windows(sheet, pairs.lent()),

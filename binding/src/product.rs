@@ -12,7 +12,7 @@ use native::refusal::Refusal;
 use native::sheet::{Form, Sheet};
 use std::ops::Range;
 
-pub const PRODUCT: Implementation = Implementation { read, list, choose, check };
+pub const PRODUCT: Implementation = Implementation { read, list, choose, check, bound };
 
 fn passed(cause: Cause) -> Result<(), Refusal> {
     match cause.number {
@@ -47,22 +47,32 @@ fn read(text: &[u8], form: Form) -> Result<Reading, Refusal> {
     Ok(Reading { sheet, names })
 }
 
+fn bound(sheet: &Sheet) -> Result<usize, Refusal> {
+    let bound = ExportedSheet::from(sheet).bound();
+    passed(bound.cause)?;
+    Ok(bound.most)
+}
+
+/// As long as the product's own call says beforehand; nothing for a sheet that it refuses, as each call does then.
+fn pairs_length(sheet: &ExportedSheet) -> usize {
+    PairsArea::length_of(sheet.bound().most)
+}
+
 fn list(sheet: &Sheet) -> Result<Listing, Refusal> {
-    let (n, q) = sheet.size();
-    let mut area = PairsArea::of_length(PairsArea::least(n, q));
-    let listing = ExportedSheet::from(sheet).list_in(&mut area);
+    let exported = ExportedSheet::from(sheet);
+    let mut area = PairsArea::of_length(pairs_length(&exported));
+    let listing = exported.list_in(&mut area);
     passed(listing.cause)?;
     let pair = |numbers: &[i64]| {
         let arrival = u32::try_from(numbers[0]).expect("an arrival is a time of day");
         Pair { arrival, lateness: numbers[1] }
     };
-    let pairs = area.first(2 * listing.pairs).chunks(2).map(pair).collect();
+    let pairs = area.first(PairsArea::length_of(listing.pairs)).chunks(2).map(pair).collect();
     Ok(Listing { pairs, rounds: listing.rounds })
 }
 
 fn choose(sheet: &Sheet, wish: u32) -> Result<Entry, Refusal> {
-    let (n, q) = sheet.size();
-    let lengths = PlanAreas::least(n, q);
+    let lengths = PlanAreas::least(sheet);
     let mut areas = PlanAreas::of_lengths(lengths);
     let choice = ExportedSheet::from(sheet).choose_in(wish, &mut areas);
     passed(choice.cause)?;
@@ -74,9 +84,9 @@ fn choose(sheet: &Sheet, wish: u32) -> Result<Entry, Refusal> {
 }
 
 fn check(sheet: &Sheet, plan: &ForeignPlan) -> Result<Checked, Refusal> {
-    let (n, q) = sheet.size();
-    let mut areas = CheckAreas::holding(plan, PairsArea::least(n, q));
-    let check = ExportedSheet::from(sheet).check_in(&mut areas);
+    let exported = ExportedSheet::from(sheet);
+    let mut areas = CheckAreas::holding(plan, pairs_length(&exported));
+    let check = exported.check_in(&mut areas);
     passed(check.cause)?;
     Ok(Checked {
         pair: Pair { arrival: check.last, lateness: check.worst },

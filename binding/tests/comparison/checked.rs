@@ -1,6 +1,7 @@
 //! The product's checking of one plan.
 
 use crate::cause::{cause_of, if_short};
+use crate::lengths::{longer, too_short};
 use crate::listed::numbers_of;
 use binding::areas::{CheckAreas, PairsArea};
 use binding::calls::Check;
@@ -18,18 +19,18 @@ pub struct Compared<'a> {
 }
 
 impl Compared<'_> {
-    /// The product says of the plan what the independent implementation says, with an area that is long enough or has room to spare, and refuses
-    /// one that is too short. Gives what is said.
+    /// The product says of the plan what the independent implementation says, with an area that is just long enough or longer, and refuses one that
+    /// is too short. Gives what is said.
     pub fn check_plan(&self, plan: &ForeignPlan, rng: &mut Rng) -> Result<Checked, Refusal> {
-        let expected = check_by(&self.listed, self.sheet, plan);
-        let (n, q) = self.sheet.size();
-        let least = PairsArea::least(n, q);
-        let spare = if rng.one_in(3) { rng.index(4) } else { 0 };
-        self.check_in(plan, least + spare, &expected);
+        let Compared { sheet, listed } = self;
+        let expected = check_by(listed, sheet, plan);
+        let length = if rng.one_in(3) { longer(sheet, rng) } else { PairsArea::least(sheet) };
+        self.check_in(plan, length, &expected);
         let short = Err(if_short(&expected));
-        self.check_in(plan, least.saturating_sub(1), &short);
+        let [by_one, by_more] = too_short(sheet, rng);
+        self.check_in(plan, by_one, &short);
         if rng.one_in(8) {
-            self.check_in(plan, rng.index(least.max(1)), &short);
+            self.check_in(plan, by_more, &short);
             self.check_in(plan, 0, &short);
         }
         expected

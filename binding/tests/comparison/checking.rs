@@ -1,6 +1,7 @@
 //! Checking of plans from elsewhere: our own, damaged, drawn and wild ones with their rows in any order, and every plan of small sheets.
 
 use crate::checked::Compared;
+use crate::filled::filled;
 use crate::share::{any_empty, Share};
 use crate::size::Size;
 use crate::spoil::spoil;
@@ -150,6 +151,15 @@ fn random_sheets() {
             assert!(met.each_above(least, &[WRONG_ROWS, RULE_BROKEN]) && met.share.is_good(), "{met:?}");
         }
     }
+}
+
+#[test]
+fn filled_lists() {
+    let mut rng = Rng::new(122);
+    let mut met = Met::default();
+    (0..300).for_each(|_| check_sheet(&filled(&mut rng), &mut rng, &mut met));
+    met.print("filled lists");
+    assert!(met.each_above(200, &[WRONG_ROWS, RULE_BROKEN]) && met.share.is_good(), "{met:?}");
 }
 
 /// A plan of the sheet before it was spoiled, and drawn ones for the spoiled sheet.

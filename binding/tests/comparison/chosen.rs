@@ -12,8 +12,7 @@ use native::sheet::Sheet;
 
 /// The product chooses as expected with areas that are long enough or have room to spare, and refuses where one is too short.
 pub fn check_choosing(sheet: &Sheet, wish: u32, expected: &Result<&Entry, Refusal>, rng: &mut Rng) {
-    let (n, q) = sheet.size();
-    let least = PlanAreas::least(n, q);
+    let least = PlanAreas::least(sheet);
     let spare = least.map(|length| length + rng.index(4));
     check_in(sheet, wish, if rng.one_in(3) { least } else { spare }, expected);
     let short = Err(if_short(expected));

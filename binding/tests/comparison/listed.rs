@@ -1,6 +1,7 @@
 //! The product's listing of one sheet.
 
 use crate::cause::{cause_of, if_short};
+use crate::lengths::{longer, too_short};
 use binding::areas::PairsArea;
 use binding::calls;
 use binding::exported::ExportedSheet;
@@ -9,14 +10,12 @@ use native::refusal::Refusal;
 use native::rng::Rng;
 use native::sheet::Sheet;
 
-/// The product lists as expected with an area that is long enough or has room to spare, and refuses one that is too short.
+/// The product lists as expected with an area that is just long enough, and with a longer one, and refuses one that is too short.
 pub fn check_listing(sheet: &Sheet, expected: &Result<Listing, Refusal>, rng: &mut Rng) {
-    let (n, q) = sheet.size();
-    let least = PairsArea::least(n, q);
-    check_in(sheet, least, expected);
-    check_in(sheet, least + rng.index(4), expected);
+    check_in(sheet, PairsArea::least(sheet), expected);
+    check_in(sheet, longer(sheet, rng), expected);
     let short = Err(if_short(expected));
-    check_in(sheet, least.saturating_sub(rng.index(3) + 1), &short);
+    too_short(sheet, rng).iter().for_each(|&length| check_in(sheet, length, &short));
     check_in(sheet, 0, &short);
 }
 

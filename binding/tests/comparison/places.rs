@@ -1,6 +1,7 @@
 //! How many places there must be: with one fewer than orders every call refuses a sheet with 7, and the reader its text; with as many as orders, and
 //! with one to spare, none does.
 
+use crate::bounding::check_bound;
 use crate::checked::Compared;
 use crate::planning::Met;
 use crate::size::Size;
@@ -20,7 +21,6 @@ const TOO_FEW: Refusal = Refusal { number: TOO_FEW_PLACES, returned: 0 };
 /// Every call refuses the sheet with 7, or none does.
 fn check_calls(sheet: &Sheet, too_few: bool, rng: &mut Rng) {
     let is_too_few = |refusal: Option<Refusal>| refusal == Some(TOO_FEW);
-    let (n, q) = sheet.size();
     let mut planned = Met::default();
     planned.check(sheet, rng);
     let sevens = planned.numbers[TOO_FEW_PLACES];
@@ -28,7 +28,8 @@ fn check_calls(sheet: &Sheet, too_few: bool, rng: &mut Rng) {
     let compared = Compared { sheet, listed: list(sheet) };
     let plan = drawn(rng, sheet);
     assert_eq!(is_too_few(compared.check_plan(&plan, rng).err()), too_few, "{sheet:?}");
-    assert_eq!(Both::start(sheet, SearchAreas::least(n, q)).err(), too_few.then_some(TOO_FEW), "{sheet:?}");
+    assert_eq!(is_too_few(check_bound(sheet).err()), too_few, "{sheet:?}");
+    assert_eq!(Both::start(sheet, SearchAreas::least(sheet)).err(), too_few.then_some(TOO_FEW), "{sheet:?}");
     let text = text_of(sheet, &mut numbered_name);
     let read = check_reading(text.as_bytes(), sheet.form());
     assert_eq!(read, if too_few { Err(TOO_FEW) } else { Ok(sheet.clone()) }, "{text}");

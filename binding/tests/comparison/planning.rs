@@ -1,4 +1,5 @@
 use crate::chosen::check_choosing;
+use crate::filled::filled;
 use crate::ladders::ladders;
 use crate::listed::check_listing;
 use crate::share::{any_empty, Share};
@@ -109,6 +110,15 @@ fn many_rounds() {
     }
     met.print("ladders");
     assert!(met.numbers[NO_SCHEDULE] == 0 && met.share.is_good(), "{met:?}");
+}
+
+#[test]
+fn filled_lists() {
+    let mut rng = Rng::new(121);
+    let mut met = Met::default();
+    (0..300).for_each(|_| met.check(&filled(&mut rng), &mut rng));
+    met.print("filled lists");
+    assert!(met.share.is_good(), "{met:?}");
 }
 
 #[test]

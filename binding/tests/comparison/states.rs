@@ -3,21 +3,22 @@
 use crate::watched::NO_STATE;
 use binding::areas::SearchAreas;
 use binding::calls::State;
-use native::admission::admit;
 use native::limits::{MOST_ORDERS, MOST_TRAINS};
+use native::planner::{bound, figure};
 use native::rng::Rng;
 use native::sheet::Sheet;
 
 /// Whether a call takes the state for one of a search on this sheet, in areas of these lengths: the sheet and the areas pass the tests of a start, and
 /// the counts are possible; while the search goes on, the orders are ranked, a further round may be made, and the latest trains leave enough places.
 pub fn is_taken(state: &State, sheet: &Sheet, lengths: [usize; 3]) -> bool {
-    let (n, q) = sheet.size();
-    let room = lengths.iter().zip(SearchAreas::least(n, q)).all(|(length, least)| *length >= least);
-    if admit(sheet).is_err() || !room || state.pairs > state.rounds || state.rounds > n * q {
+    let room = lengths.iter().zip(SearchAreas::least(sheet)).all(|(length, least)| *length >= least);
+    let Ok(most) = bound(sheet) else { return false };
+    if !room || state.pairs > state.rounds || state.rounds > most {
         return false;
     }
+    let n = sheet.orders.len();
     let (order, latest) = (&state.order[..n], &state.latest[..n]);
-    state.ended != 0 || state.rounds < n * q && order == ranked(sheet) && leaves_places(latest, &sheet.capacity)
+    state.ended != 0 || state.rounds < most && order == ranked(sheet) && leaves_places(latest, &sheet.capacity)
 }
 
 /// The orders from 0, by release and number.
@@ -65,7 +66,7 @@ fn wild(rng: &mut Rng) -> State {
 /// Damage that a call cannot tell.
 fn hide(rng: &mut Rng, state: &mut State, sheet: &Sheet) {
     let (n, q) = sheet.size();
-    state.rounds = rng.index(n * q);
+    state.rounds = rng.index(figure(sheet));
     state.pairs = rng.index(state.rounds + 1);
     state.limit = rng.pick(&[i64::MIN, -100, 0, 100, i64::MAX]);
     state.last = rng.pick(&[0, state.last, u32::MAX]);
@@ -77,10 +78,10 @@ fn hide(rng: &mut Rng, state: &mut State, sheet: &Sheet) {
 
 fn damage_field(rng: &mut Rng, state: &mut State, sheet: &Sheet) {
     let (n, q) = sheet.size();
-    let (at, most) = (rng.index(n), n * q);
+    let (at, most) = (rng.index(n), figure(sheet));
     #[rustfmt::skip]
     let value = rng.pick(&[
-        0, 1, n - 1, n, q, q + 1, MOST_TRAINS, MOST_TRAINS + 1, MOST_ORDERS, most - 1, most, most + 1, 255, 256, usize::MAX / 2, usize::MAX,
+        0, 1, n - 1, n, q, q + 1, n * q, MOST_TRAINS, MOST_TRAINS + 1, MOST_ORDERS, most - 1, most, most + 1, 255, 256, usize::MAX / 2, usize::MAX,
     ]);
     match rng.index(8) {
         0 => state.pairs = value,

@@ -5,11 +5,17 @@ use binding::product::{name_place, PRODUCT};
 use native::damage::damaged;
 use native::draw::small;
 use native::limits::MOST_ORDERS;
-use native::print::INDEPENDENT;
+use native::print::{print, print_by, INDEPENDENT};
 use native::refusal::*;
 use native::rng::Rng;
 use native::sheet::{Form, Sheet, FORMS};
 use native::write::{drawn_name, numbered_name, text_of};
+
+/// What the program `plan` prints for a text is what the independent implementation prints; the product lists in areas that are as long as it says
+/// itself.
+fn check_printing(text: &[u8]) {
+    assert_eq!(print_by(&PRODUCT, text), print(text), "{}", text.escape_ascii());
+}
 
 /// Both readers and all name calls agree on a text, taken as of this form. Gives what is read.
 pub fn check_reading(text: &[u8], form: Form) -> Result<Sheet, Refusal> {
@@ -50,6 +56,7 @@ fn good_texts() {
         let sheet = Size::Any.draw(&mut rng, FORMS[turn % 2]);
         to_spare += usize::from(sheet.spare_places() > Some(0));
         let text = text_of(&sheet, &mut |_| drawn_name(&mut rng));
+        check_printing(text.as_bytes());
         for form in FORMS {
             let number = check_reading(text.as_bytes(), form).err().map(|refusal| refusal.number);
             assert_eq!(number, (form != sheet.form()).then_some(MALFORMED), "{text}");
@@ -68,6 +75,7 @@ fn damaged_texts() {
         let sheet = small(&mut rng, form, 9);
         drawn.meet_searched(&sheet);
         let text = damaged(&mut rng, text_of(&sheet, &mut numbered_name).as_bytes());
+        check_printing(&text);
         match check_reading(&text, form) {
             Ok(sheet) => {
                 met[0] += 1;

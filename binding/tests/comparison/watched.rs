@@ -2,7 +2,7 @@
 
 use crate::cause::cause_of;
 use crate::listed::numbers_of;
-use binding::areas::SearchAreas;
+use binding::areas::{PlanAreas, SearchAreas};
 use binding::calls::{look, Round, State};
 use binding::exported::ExportedSheet;
 use binding::product::PRODUCT;
@@ -106,8 +106,7 @@ impl Both<'_> {
     fn check_areas(&self) {
         let Both { sheet, areas, own_areas, .. } = self;
         let numbers = numbers_of(self.own.look(&own_areas.pairs));
-        let (n, q) = sheet.size();
-        let [_, trains, times] = if numbers.is_empty() { [0; 3] } else { SearchAreas::least(n, q) };
+        let [trains, times] = if numbers.is_empty() { [0; 2] } else { PlanAreas::least(sheet) };
         assert_eq!(areas.pairs.first(numbers.len()), numbers, "{sheet:?}");
         assert_eq!(areas.plan.train_of_order.first(trains), &own_areas.train_of_order[..trains], "{sheet:?}");
         assert_eq!(areas.plan.times.first(times), &own_areas.times[..times], "{sheet:?}");

@@ -1,6 +1,8 @@
 //! The search by single rounds: lists of calls on drawn and stored sheets, refused starts, and damaged states.
 
+use crate::filled::filled;
 use crate::ladders::ladders;
+use crate::lengths::longer;
 use crate::share::Share;
 use crate::size::Size;
 use crate::spoil::spoil;
@@ -12,7 +14,7 @@ use binding::exported::ExportedSheet;
 use native::admission::admit;
 use native::draw::small;
 use native::ladder::Ladder;
-use native::planner::Counts;
+use native::planner::{figure, Counts};
 use native::reader::read;
 use native::refusal::*;
 use native::rng::Rng;
@@ -63,24 +65,25 @@ impl Met {
 
     /// The whole search, with a look behind each round.
     fn run(&mut self, sheet: &Sheet, rng: &mut Rng) {
-        let (n, q) = sheet.size();
         let mut search = started(sheet, rng);
         while search.said() == Said::GoesOn {
             search.round();
             self.replaced += usize::from(search.look());
             self.calls += 2;
-            assert!(search.rounds() <= n * q, "{sheet:?}");
+            assert!(search.rounds() <= figure(sheet), "{sheet:?}");
         }
         self.meet(&search);
         (0..2).for_each(|_| search.round());
     }
 }
 
-/// A search of both on an admitted sheet, in areas that are long enough or have room to spare.
+/// A search of both on an admitted sheet, in areas that are just long enough or longer.
 fn started<'a>(sheet: &'a Sheet, rng: &mut Rng) -> Both<'a> {
-    let (n, q) = sheet.size();
-    let spare = |length| length + if rng.one_in(2) { rng.index(4) } else { 0 };
-    Both::start(sheet, SearchAreas::least(n, q).map(spare)).expect("an admitted sheet")
+    let mut lengths = SearchAreas::least(sheet).map(|length| length + if rng.one_in(2) { rng.index(4) } else { 0 });
+    if rng.one_in(4) {
+        lengths[0] = longer(sheet, rng);
+    }
+    Both::start(sheet, lengths).expect("an admitted sheet")
 }
 
 /// As a C compiler lays out what include/joshkamber.h declares, on x86-64.
@@ -141,6 +144,15 @@ fn many_rounds() {
 }
 
 #[test]
+fn filled_lists() {
+    let mut rng = Rng::new(123);
+    let mut met = Met::default();
+    (0..300).for_each(|_| met.run(&filled(&mut rng), &mut rng));
+    met.print("filled lists");
+    assert!(met.replaced == 0 && met.share.is_good(), "{met:?}");
+}
+
+#[test]
 fn stored_sheets_agree() {
     let mut rng = Rng::new(114);
     let mut met = Met::default();
@@ -155,9 +167,9 @@ fn stored_sheets_agree() {
 
 /// Lengths that are enough for the sheet, and those of which one or all are too short.
 fn lengths_around(sheet: &Sheet, rng: &mut Rng) -> Vec<[usize; 3]> {
-    let (n, q) = sheet.size();
-    let least = SearchAreas::least(n, q);
+    let least = SearchAreas::least(sheet);
     let mut all = vec![least, least.map(|length| length + rng.index(4)), [0; 3]];
+    all.push([longer(sheet, rng), least[1], least[2]]);
     for area in 0..least.len() {
         for missing in [1, 1 + rng.index(least[area].max(1))] {
             let mut short = least;
@@ -236,8 +248,7 @@ fn check_look(state: &State, areas: &mut SearchAreas) {
 
 /// A search on the sheet after some rounds, in areas that may be too short.
 fn some_search(sheet: &Sheet, rng: &mut Rng) -> (State, SearchAreas) {
-    let (n, q) = sheet.size();
-    let mut areas = SearchAreas::of_lengths(SearchAreas::least(n, q));
+    let mut areas = SearchAreas::of_lengths(SearchAreas::least(sheet));
     let mut state = ExportedSheet::from(sheet).start_in(&mut areas).state;
     (0..rng.index(4)).for_each(|_| state = check_round(sheet, &state, &mut areas).state);
     if rng.one_in(8) {
@@ -256,7 +267,6 @@ fn damaged_states() {
     let mut share = Share::default();
     for turn in 0..40_000 {
         let sheet = small(&mut rng, FORMS[turn % 2], if turn % 4 == 0 { 32 } else { 9 });
-        let (n, q) = sheet.size();
         let (sound, mut areas) = some_search(&sheet, &mut rng);
         let mut state = damaged(&mut rng, &sound, &other, &sheet);
         let mut rounds = 0;
@@ -266,7 +276,7 @@ fn damaged_states() {
             let reply = check_round(&sheet, &state, &mut areas);
             calls += 2;
             rounds += 1;
-            assert!(rounds <= n * q, "{sheet:?}");
+            assert!(rounds <= figure(&sheet), "{sheet:?}");
             state = reply.state;
             if reply.ended {
                 no_search += usize::from(reply == reply_of(Said::Ended(Counts { pairs: 0, rounds: 0 }), state));

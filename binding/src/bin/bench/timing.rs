@@ -5,7 +5,7 @@ use binding::exported::ExportedSheet;
 use native::admission::admit;
 use native::checking::{check_in, Checked, ForeignPlan};
 use native::plan::{Entry, Pair};
-use native::planner::{choose_in, list_in, Counts};
+use native::planner::{choose_in, figure, list_in, Counts};
 use native::search::{search, Recorded};
 use native::sheet::Sheet;
 use native::watching::{self, Said, Watched};
@@ -64,9 +64,8 @@ impl Bench<'_> {
     /// Both must list as many pairs in as many rounds.
     pub fn time_listing(&self) -> Timed {
         let Bench { sheet, exported, repeats, .. } = self;
-        let (n, q) = sheet.size();
-        let mut area = PairsArea::of_length(PairsArea::least(n, q));
-        let mut pairs = vec![Pair::default(); n * q];
+        let mut area = PairsArea::of_length(PairsArea::least(sheet));
+        let mut pairs = vec![Pair::default(); figure(sheet)];
         let (turns, reply, counts) =
             in_turns(*repeats, || black_box(exported).list_in(&mut area), || list_in(black_box(sheet), &mut pairs));
         assert_eq!(Counts { pairs: reply.pairs, rounds: reply.rounds }, self.counts(), "{sheet:?}");
@@ -77,8 +76,7 @@ impl Bench<'_> {
     /// By the arrival of a listed pair, which both must choose.
     pub fn time_choosing(&self, pair: Pair) -> Timed {
         let Bench { sheet, exported, repeats, .. } = self;
-        let (n, q) = sheet.size();
-        let lengths = PlanAreas::least(n, q);
+        let lengths = PlanAreas::least(sheet);
         let mut areas = PlanAreas::of_lengths(lengths);
         let (mut train_of_order, mut times) = (vec![0; lengths[0]], vec![0; lengths[1]]);
         let wish = pair.arrival;
@@ -95,10 +93,9 @@ impl Bench<'_> {
     /// Of the plan of a listed pair, told in rows: both must say that it is a schedule and that this pair is its own and listed.
     pub fn time_checking(&self, Entry { pair, plan }: &Entry) -> Timed {
         let Bench { sheet, exported, repeats, .. } = self;
-        let (n, q) = sheet.size();
         let plan = ForeignPlan::from(plan);
-        let mut areas = CheckAreas::holding(&plan, PairsArea::least(n, q));
-        let mut pairs = vec![Pair::default(); n * q];
+        let mut areas = CheckAreas::holding(&plan, PairsArea::least(sheet));
+        let mut pairs = vec![Pair::default(); figure(sheet)];
         let (turns, reply, checked) = in_turns(
             *repeats,
             || black_box(exported).check_in(&mut areas),
@@ -118,11 +115,10 @@ impl Bench<'_> {
     /// The whole search by single round calls: both must come to as many pairs in as many rounds.
     pub fn time_watching(&self) -> Timed {
         let Bench { sheet, exported, repeats, .. } = self;
-        let (n, q) = sheet.size();
-        let lengths = SearchAreas::least(n, q);
+        let lengths = SearchAreas::least(sheet);
         let mut areas = SearchAreas::of_lengths(lengths);
         let mut own_areas = watching::SearchAreas {
-            pairs: vec![Pair::default(); n * q],
+            pairs: vec![Pair::default(); figure(sheet)],
             train_of_order: vec![0; lengths[1]],
             times: vec![0; lengths[2]],
         };
@@ -138,8 +134,7 @@ impl Bench<'_> {
 
     /// How many microseconds longer than its listing the product's checking of this plan takes.
     pub fn checking_beyond_listing(&self, Entry { plan, .. }: &Entry) -> f64 {
-        let (n, q) = self.sheet.size();
-        let mut areas = CheckAreas::holding(&plan.into(), PairsArea::least(n, q));
+        let mut areas = CheckAreas::holding(&plan.into(), PairsArea::least(self.sheet));
         self.beyond_listing(|exported| {
             let reply = exported.check_in(&mut areas);
             Counts { pairs: reply.pairs, rounds: reply.rounds }
@@ -148,16 +143,14 @@ impl Bench<'_> {
 
     /// How many microseconds longer than its listing the product's search by single round calls takes.
     pub fn watching_beyond_listing(&self) -> f64 {
-        let (n, q) = self.sheet.size();
-        let mut areas = SearchAreas::of_lengths(SearchAreas::least(n, q));
+        let mut areas = SearchAreas::of_lengths(SearchAreas::least(self.sheet));
         self.beyond_listing(|exported| watch(exported, &mut areas))
     }
 
     /// The same of a call with as many pairs and rounds: the median of the turns.
     fn beyond_listing(&self, mut call: impl FnMut(&ExportedSheet) -> Counts) -> f64 {
         let Bench { sheet, exported, repeats, .. } = self;
-        let (n, q) = sheet.size();
-        let mut area = PairsArea::of_length(PairsArea::least(n, q));
+        let mut area = PairsArea::of_length(PairsArea::least(sheet));
         let (turns, listing, counts) =
             in_turns(*repeats, || black_box(exported).list_in(&mut area), || call(black_box(exported)));
         assert_eq!(counts, Counts { pairs: listing.pairs, rounds: listing.rounds }, "{sheet:?}");
