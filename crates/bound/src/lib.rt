@@ -54,12 +54,12 @@ pub fn bound(sheet: Sheet) -> BoundReply
 pub fn bound_windows(sheet: WindowSheet) -> BoundReply
     ensures { λ r. ⌜ BoundCall (windowSheet sheet) r ⌝ }
 {
-    bound(model::borders::from_windows(sheet))
+    bound(borders::from_windows(sheet))
 }
 
 // Of a sheet of the timetable form.
 pub fn bound_timetable(sheet: TimetableSheet) -> BoundReply
     ensures { λ r. ⌜ BoundCall (timetableSheet sheet) r ⌝ }
 {
-    bound(model::borders::from_timetable(sheet))
+    bound(borders::from_timetable(sheet))
 }

@@ -76,7 +76,7 @@ pub extern "C" fn joshkamber_name_in_timetable(text: &[u8], order: usize) -> Nam
 pub extern "C" fn joshkamber_list_windows(sheet: WindowSheet, pairs: &mut [i64]) -> Listing
     ensures { λ r. ⌜ ExportedListing (windowSheet sheet) r (now (pairs .exit)) (now (pairs .entry)) ⌝ }
 {
-    let reply = planner::listing::list_windows(sheet, pairs);
+    let reply = listing::list_windows(sheet, pairs);
     listing_of(reply)
 }
 
@@ -85,7 +85,7 @@ pub extern "C" fn joshkamber_list_windows(sheet: WindowSheet, pairs: &mut [i64])
 pub extern "C" fn joshkamber_list_timetable(sheet: TimetableSheet, pairs: &mut [i64]) -> Listing
     ensures { λ r. ⌜ ExportedListing (timetableSheet sheet) r (now (pairs .exit)) (now (pairs .entry)) ⌝ }
 {
-    let reply = planner::listing::list_timetable(sheet, pairs);
+    let reply = listing::list_timetable(sheet, pairs);
     listing_of(reply)
 }
 
@@ -100,7 +100,7 @@ pub extern "C" fn joshkamber_choose_windows(
     ensures { λ r. ⌜ ExportedChoice (windowSheet sheet) wish r (areas (now («train_of_order» .exit)) (now (times .exit)))
         (areas (now («train_of_order» .entry)) (now (times .entry))) ⌝ }
 {
-    let reply = planner::choosing::choose_windows(sheet, wish, train_of_order, times);
+    let reply = choosing::choose_windows(sheet, wish, train_of_order, times);
     choice_of(reply)
 }
 
@@ -115,6 +115,6 @@ pub extern "C" fn joshkamber_choose_timetable(
     ensures { λ r. ⌜ ExportedChoice (timetableSheet sheet) wish r (areas (now («train_of_order» .exit)) (now (times .exit)))
         (areas (now («train_of_order» .entry)) (now (times .entry))) ⌝ }
 {
-    let reply = planner::choosing::choose_timetable(sheet, wish, train_of_order, times);
+    let reply = choosing::choose_timetable(sheet, wish, train_of_order, times);
     choice_of(reply)
 }

@@ -7,13 +7,13 @@ use crate::judging::judge;
 use crate::listed::beside;
 use foreign::Given;
 use foreign::gather;
+use listing::list;
 use model::Admission;
 use model::CheckReply;
 use model::Row;
 use model::Sheet;
 use model::TimetableSheet;
 use model::WindowSheet;
-use planner::listing::list;
 ghost use Rattle.model.specs.Memory.{sheetOf, windowSheet, timetableSheet};
 ghost use Rattle.checker.specs.Checking.{CheckingCall, CheckedOf};
 
@@ -46,12 +46,7 @@ pub fn check_gathered_windows(
 ) -> CheckReply
     ensures { λ r. ⌜ CheckedOf given (λ rows. CheckingCall (windowSheet sheet) (now (departures .entry)) rows r (now (pairs .exit)) (now (pairs .entry))) ⌝ }
 {
-    check(
-        model::borders::from_windows(sheet),
-        departures,
-        given,
-        pairs,
-    )
+    check(borders::from_windows(sheet), departures, given, pairs)
 }
 
 // The same for a sheet of the timetable form.
@@ -63,12 +58,7 @@ pub fn check_gathered_timetable(
 ) -> CheckReply
     ensures { λ r. ⌜ CheckedOf given (λ rows. CheckingCall (timetableSheet sheet) (now (departures .entry)) rows r (now (pairs .exit)) (now (pairs .entry))) ⌝ }
 {
-    check(
-        model::borders::from_timetable(sheet),
-        departures,
-        given,
-        pairs,
-    )
+    check(borders::from_timetable(sheet), departures, given, pairs)
 }
 
 // Checks a foreign plan, its rows a lent list of records, against a sheet of the window form.

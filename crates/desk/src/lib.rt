@@ -15,8 +15,6 @@ use model::limits::MOST_ORDERS;
 use model::limits::MOST_PAIR_NUMBERS;
 use model::limits::MOST_PRINTED;
 use model::limits::MOST_TIME_NUMBERS;
-use planner::choosing;
-use planner::listing;
 use writing::Printed;
 ghost use mathlib.Core.Path.{_≡_};
 ghost use mathlib.Core.List.{List};

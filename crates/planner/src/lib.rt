@@ -1,4 +1,1 @@
-// The planning calls: listing gives the pairs and how many rounds were made, choosing the plan for a wished arrival. A sheet in memory goes in by value,
-// and each call is lent just the areas that it fills.
-pub mod choosing;
-pub mod listing;
+// No code: what listing and choosing promise, and the laws from the rounds to it, stand in specs/; `listing` and `choosing` have the calls.

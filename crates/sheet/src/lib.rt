@@ -3,6 +3,8 @@ mod sheets;
 mod text_reader;
 mod walk;
 
+use borders::to_timetable;
+use borders::to_windows;
 use fields::NamePlace;
 use fields::NamePlaces;
 use fields::name::name_part;
@@ -13,8 +15,6 @@ use model::Form;
 use model::Sheet;
 use model::TimetableSheet;
 use model::WindowSheet;
-use model::borders::to_timetable;
-use model::borders::to_windows;
 ghost use mathlib.Core.Path.{_≡_};
 ghost use Rattle.model.specs.Memory.{sheetOf, windowSheet, timetableSheet};
 ghost use Rattle.fields.specs.NamePlaces.{IsPart, placeOf};

@@ -100,7 +100,7 @@ pub fn round_windows(
 {
     round(
         state,
-        model::borders::from_windows(sheet),
+        borders::from_windows(sheet),
         pairs,
         train_of_order,
         times,
@@ -120,7 +120,7 @@ pub fn round_timetable(
 {
     round(
         state,
-        model::borders::from_timetable(sheet),
+        borders::from_timetable(sheet),
         pairs,
         train_of_order,
         times,

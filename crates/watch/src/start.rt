@@ -38,12 +38,7 @@ pub fn start_windows(
 ) -> Started
     ensures { λ r. ⌜ StartCall (windowSheet sheet) (all-areas (now (pairs .entry)) (now («train_of_order» .entry)) (now (times .entry))) r ⌝ }
 {
-    start(
-        model::borders::from_windows(sheet),
-        pairs,
-        train_of_order,
-        times,
-    )
+    start(borders::from_windows(sheet), pairs, train_of_order, times)
 }
 
 // Starts a search on a sheet of the timetable form.
@@ -55,10 +50,5 @@ pub fn start_timetable(
 ) -> Started
     ensures { λ r. ⌜ StartCall (timetableSheet sheet) (all-areas (now (pairs .entry)) (now («train_of_order» .entry)) (now (times .entry))) r ⌝ }
 {
-    start(
-        model::borders::from_timetable(sheet),
-        pairs,
-        train_of_order,
-        times,
-    )
+    start(borders::from_timetable(sheet), pairs, train_of_order, times)
 }
