@@ -1,6 +1,6 @@
 -- THE CONTRACT OF A BOUND CALL on the sheet s, with the reply r.
 use mathlib.Core.Path.{_≡_}
-use mathlib.Core.Logic.{_↔_}
+use mathlib.Core.Logic.{_↔_, _⊎_}
 use mathlib.Core.List.{List}
 use Prim.Native.Nat.{ℕ, _*_, _≤_, _<_}
 use lib.IntN.{ℤ}
@@ -30,7 +30,7 @@ pub record BoundCall (s : Sheet) (r : BoundReply) : Type 0 where
   -- "Refusal 10 then tests pairs against this figure": an area has room exactly if it holds as many pairs
   pub room : (most : ℕ) → r ≡ Bounded most → (pairs : List ℤ) → ListRoom s pairs ↔ (numbers-a-pair * most ≤ length pairs)
   -- it refuses with nothing but 4, 5, 2, 6 and 7, and returns 0 then
-  pub refuses : numberOf (of-bound r) ≤ 7
+  pub refuses : (numberOf (of-bound r) ≡ 0) ⊎ ((numberOf (of-bound r) ≡ 2) ⊎ ((4 ≤ numberOf (of-bound r)) × (numberOf (of-bound r) ≤ 7)))
   pub returns-zero : returnedOf (of-bound r) ≡ 0
   -- document 02, No. 5: "refusal 7 is given only if the capacities add up to less than n"
   pub seven : numberOf (of-bound r) ≡ 7 → places (s .capacity) (s .trains) < s .orders

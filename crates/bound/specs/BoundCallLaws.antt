@@ -64,7 +64,7 @@ module _ (s : Sheet) (r : BoundReply) (equal : r ≡ bound-reply (bound s)) wher
         ends = λ most e k l. let (a, is) = given-so most e in has-ended a k (omega arith);
         no-more-pairs = λ most e k. let (a, is) = given-so most e in rw is (no-more-pairs s a k);
         room = λ most e pairs. let (a, is) = given-so most e in (λ h. omega arith, λ h. omega arith);
-        refuses = rw equal (bound-refuses s .numbers);
+        refuses = rw equal (bound-refuses s .among);
         returns-zero = rw equal (bound-refuses s .as-any .returns-zero);
         seven = rw equal (bound-refuses s .as-any .seven);
       }

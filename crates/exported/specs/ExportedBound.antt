@@ -1,7 +1,7 @@
 -- WHAT THE EXPORTED BOUND CALLS RETURN AND PROMISE, in numbers. The numbers are those of the reply that the definition gives, and with that reply the library's
 -- own contract holds; what that contract says follows, in the returned numbers.
 use mathlib.Core.Path.{_≡_}
-use mathlib.Core.Logic.{_↔_}
+use mathlib.Core.Logic.{_↔_, _⊎_}
 use mathlib.Core.List.{List}
 use Prim.Native.Nat.{ℕ, _*_, _≤_, _<_}
 use lib.IntN.{ℤ}
@@ -38,7 +38,7 @@ pub record ExportedBound (s : Sheet) (r : Bound) : Type 0 where
   -- "Refusal 10 then tests pairs against this figure"
   pub room : r .cause .number ≡ 0 → (pairs : List ℤ) → ListRoom s pairs ↔ (numbers-a-pair * r .most ≤ length pairs)
   -- it refuses with nothing but 4, 5, 2, 6 and 7, and returns 0 then, beside the figure 0
-  pub refuses : r .cause .number ≤ 7
+  pub refuses : (r .cause .number ≡ 0) ⊎ ((r .cause .number ≡ 2) ⊎ ((4 ≤ r .cause .number) × (r .cause .number ≤ 7)))
   pub returns-zero : r .cause .returned ≡ 0
   pub beside : 1 ≤ r .cause .number → r .most ≡ 0
   -- document 02, No. 5: "refusal 7 is given only if the capacities add up to less than n"

@@ -1,5 +1,6 @@
 -- Laws of the figure (document 02, No. 6): how great it is at most, that no search exceeds it, and what a bound call answers. Assumes nothing.
 use mathlib.Core.Path.{_≡_, refl, ap}
+use mathlib.Core.Logic.{_⊎_, inl, inr}
 use Prim.Native.Nat.{ℕ, zero, suc, _+_, _-_, _*_, _≤_, _<_, min}
 use native.Mathlib.Omega.{arith}
 use lib.ListN.{length}
@@ -8,7 +9,7 @@ use Rattle.model.specs.Sheet.{Sheet, places}
 use Rattle.model.specs.Limits.{most-pairs, order-counts, capacity-range}
 use Rattle.model.specs.Refusal.{of-bound, numberOf}
 use Rattle.model.specs.Admission.{Admitted, admission}
-use Rattle.model.specs.AdmissionLaws.{admitted-means, admission-numbers, admission-returns, seven-means}
+use Rattle.model.specs.AdmissionLaws.{admitted-means, admission-among, admission-returns, seven-means}
 use Rattle.model.specs.declared.Admission.{Admission}
 use Rattle.model.specs.declared.Admission.the-variants.{Granted, Refused}
 use Rattle.rounds.specs.Recording.{listed}
@@ -92,7 +93,7 @@ module _ (s : Sheet) where
 
   -- else the refusal is one of "4, 5, 2, 6 and 7"
   pub record BoundRefuses (x : Admission) : Type 0 where
-    pub numbers : numberOf x ≤ 7
+    pub among : (numberOf x ≡ 0) ⊎ ((numberOf x ≡ 2) ⊎ ((4 ≤ numberOf x) × (numberOf x ≤ 7)))
     pub as-any : Refuses s x
 
   pub bound-refuses : BoundRefuses (of-bound (bound-reply (bound s)))
@@ -100,9 +101,9 @@ module _ (s : Sheet) where
   bound-refuses = go (admission s) refl
     where
       go : (t : Admission) → admission s ≡ t → BoundRefuses (of-bound (bound-reply (after-tests t (given (rounds-bound s)))))
-      go Granted u = record { numbers = omega arith; as-any = refuses-nothing s }
+      go Granted u = record { among = inl refl; as-any = refuses-nothing s }
       go (Refused r) u =
           record {
-            numbers = admission-numbers r s u;
+            among = inr (admission-among r s u);
             as-any = record { returns-zero = admission-returns r s u; seven = seven-means r s u };
           }
