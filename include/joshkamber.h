@@ -123,14 +123,15 @@ typedef struct {
 } joshkamber_check;
 
 /* Where a search that is moved round by round stands between two calls. The caller holds it by value. `pairs`, how many pairs are recorded so far,
- * `rounds`, how many rounds were made, and `ended`, which is 0 while the search goes on, may be read; the rest is the search's own. */
+ * `rounds`, how many rounds were made, and `ended`, which is 0 while the search goes on, may be read; the rest is the search's own. It keeps two bytes
+ * for each order: `train`, its train when the next round begins (0 for none, as before the first), and `latest`, the last train that it may ride. */
 typedef struct {
     size_t pairs;
     size_t rounds;
     int64_t limit;
     uint32_t last;
     uint8_t ended;
-    uint8_t order[JOSHKAMBER_MOST_ORDERS];
+    uint8_t train[JOSHKAMBER_MOST_ORDERS];
     uint8_t latest[JOSHKAMBER_MOST_ORDERS];
 } joshkamber_state;
 
@@ -249,10 +250,14 @@ joshkamber_start joshkamber_start_timetable(joshkamber_timetable_sheet sheet, co
  * and says the end again. There is no other refusal.
  *
  * If state, sheet and areas are not those of one search, the call returns all the same. It tells by a sheet or an area that fails the tests of a
- * start, by counts that are none of a search on this sheet and, while `state.ended` is 0, by orders that are not ranked as on this sheet and by
- * latest trains that leave too few places. Then it says that the search has ended with 0 pairs after 0 rounds and cause number 0, as no search
- * ends; it gives the state back unchanged and changes no area. Where it cannot tell, it makes a round or says an end, of which nothing is promised
- * but that the pairs told of lie in the area. */
+ * start, by counts that are none of a search on this sheet and, while `state.ended` is 0, by latest trains that leave too few places and by trains
+ * from which no loading begins:
+ *
+ *    a train that is not on this sheet, or has more orders than places
+ *    an order on an earlier train than another, though it may ride that one's train and is released later (or at the same time, with a greater number)
+ *
+ * Then it says that the search has ended with 0 pairs after 0 rounds and cause number 0, as no search ends; it gives the state back unchanged and
+ * changes no area. Where it cannot tell, it makes a round or says an end, of which nothing is promised but that the pairs told of lie in the area. */
 joshkamber_round joshkamber_round_windows(joshkamber_state state, joshkamber_window_sheet sheet, int64_t *pairs, size_t pairs_length,
                                           uint8_t *train_of_order, size_t train_of_order_length, uint32_t *times, size_t times_length);
 joshkamber_round joshkamber_round_timetable(joshkamber_state state, joshkamber_timetable_sheet sheet, int64_t *pairs, size_t pairs_length,

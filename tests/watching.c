@@ -36,6 +36,7 @@ static void wrong(int line, const char *what) {
 /* What was met, to be told at the end. */
 static struct {
     size_t sheets, to_spare, empty_train, calls, bounds, bounds_refused, looks, going, ended, refused, no_search, starts_refused, too_few_places;
+    size_t unknown, overfull, out_of_order, orderly; /* damaged trains, of states that all else would let pass */
 } met;
 
 /* ---- drawn numbers: splitmix64 with a fixed seed */
@@ -75,6 +76,10 @@ static size_t trains_of(const sheet *s) {
 
 static const uint32_t *capacities_of(const sheet *s) {
     return s->fixed ? s->timetable.capacity : s->windows.capacity;
+}
+
+static const uint32_t *releases_of(const sheet *s) {
+    return s->fixed ? s->timetable.release : s->windows.release;
 }
 
 /* The places of the first `trains` trains, which are no more than allowed. */
@@ -301,10 +306,69 @@ static uint32_t *times_in(const areas *lent) {
 
 static bool same_state(const joshkamber_state *a, const joshkamber_state *b) {
     return a->pairs == b->pairs && a->rounds == b->rounds && a->limit == b->limit && a->last == b->last && a->ended == b->ended &&
-           memcmp(a->order, b->order, MOST_ORDERS) == 0 && memcmp(a->latest, b->latest, MOST_ORDERS) == 0;
+           memcmp(a->train, b->train, MOST_ORDERS) == 0 && memcmp(a->latest, b->latest, MOST_ORDERS) == 0;
 }
 
 static const joshkamber_state no_state; /* noughts */
+
+/* No order has a train, and each may ride the last one. */
+static bool is_first_state(const joshkamber_state *state, const sheet *s) {
+    bool first = state->pairs == 0 && state->rounds == 0 && state->ended == 0;
+
+    for (size_t j = 0; j < MOST_ORDERS; j++)
+        first = first && state->train[j] == 0 && state->latest[j] == trains_of(s);
+    return first;
+}
+
+/* What is wrong with trains from which no loading begins. */
+enum { UNKNOWN = 1, OVERFULL = 2, OUT_OF_ORDER = 4 };
+
+/* Whether order y, on an earlier train, could ride the train of x and is not below x by release and number. */
+static bool is_passed_over(size_t y, size_t x, const joshkamber_state *state, const sheet *s) {
+    const uint32_t *release = releases_of(s);
+    const uint8_t *train = state->train;
+    bool below = release[y] < release[x] || (release[y] == release[x] && y < x);
+
+    return 1 <= train[y] && train[y] < train[x] && train[x] <= state->latest[y] && !below;
+}
+
+/* The faults of the trains, on an admitted sheet; 0 if they are orderly. */
+static int faults_of(const joshkamber_state *state, const sheet *s) {
+    size_t n = orders_of(s), q = trains_of(s), riders[UINT8_MAX + 1] = {0};
+    int faults = 0;
+
+    for (size_t x = 0; x < n; x++) {
+        riders[state->train[x]]++;
+        faults |= state->train[x] > q ? UNKNOWN : 0;
+        for (size_t y = 0; y < n; y++)
+            faults |= is_passed_over(y, x, state, s) ? OUT_OF_ORDER : 0;
+    }
+    for (size_t i = 1; i <= q; i++)
+        faults |= riders[i] > capacities_of(s)[i - 1] ? OVERFULL : 0;
+    return faults;
+}
+
+/* Whether the latest trains are the sheet's, and no more orders have one up to train i than there are places up to it. */
+static bool leave_places(const joshkamber_state *state, const sheet *s) {
+    size_t n = orders_of(s), q = trains_of(s), orders = 0, last[UINT8_MAX + 1] = {0};
+
+    for (size_t j = 0; j < n; j++)
+        last[state->latest[j]]++;
+    for (size_t i = 0; i <= q; i++) {
+        orders += last[i];
+        if (orders > places_to(s, i))
+            return false;
+    }
+    return orders == n;
+}
+
+/* Whether a round call takes the state for one of a search on this sheet, if its trains are orderly. */
+static bool may_be_taken(const joshkamber_state *state, const sheet *s) {
+    size_t most = figure_of(s);
+    bool counts = state->pairs <= state->rounds && state->rounds <= most;
+
+    return counts && (state->ended != 0 || (state->rounds < most && leave_places(state, s)));
+}
 
 /* Told where state, sheet and areas are seen not to be those of one search. */
 static bool is_no_search(const joshkamber_round *said) {
@@ -326,7 +390,7 @@ static joshkamber_start start(const sheet *s, areas *lent) {
     MUST(as_found(lent));
     MUST(number == (of_sheet != 0 ? of_sheet : have_room(lent, s) ? 0 : AREA_TOO_SHORT));
     MUST(begun.cause.returned == 0);
-    MUST(number == 0 || same_state(&begun.state, &no_state));
+    MUST(number == 0 ? is_first_state(&begun.state, s) : same_state(&begun.state, &no_state));
     if (number == 0 || number == TOO_FEW_PLACES || number == AREA_TOO_SHORT)
         MUST((number == TOO_FEW_PLACES) == (places_to(s, trains_of(s)) < orders_of(s)));
     met.calls++;
@@ -382,6 +446,17 @@ static void check_written(const joshkamber_round *said, const sheet *s, const ar
     MUST(as_found_from(&a[TIMES], 3 * trains_of(s), element[TIMES]));
 }
 
+/* A round that is made leaves the trains of the plan that it writes, and behind the sheet's orders what was there. Where step 2 stops it, which is an end
+ * that leaves enough places, trains and latest trains stay as they were. */
+static void check_kept(const joshkamber_state *before, const joshkamber_state *after, const sheet *s, const areas *lent) {
+    size_t n = orders_of(s), from = after->ended != 0 && leave_places(after, s) ? 0 : n;
+
+    MUST(after->rounds == before->rounds + 1 && after->pairs <= before->pairs + 1);
+    MUST(memcmp(after->train + from, before->train + from, MOST_ORDERS - from) == 0);
+    MUST(memcmp(after->latest + from, before->latest + from, MOST_ORDERS - from) == 0);
+    MUST(as_found(lent) || memcmp(after->train, trains_in(lent), n) == 0);
+}
+
 static joshkamber_round make_round(joshkamber_state state, const sheet *s, areas *lent) {
     keep(lent);
     joshkamber_round said = call_round(state, s, lent);
@@ -392,7 +467,7 @@ static joshkamber_round make_round(joshkamber_state state, const sheet *s, areas
     if (state.ended != 0 || no_search)
         MUST(as_found(lent) && same_state(&said.state, &state));
     else
-        MUST(said.state.rounds == state.rounds + 1 && said.state.pairs <= state.pairs + 1);
+        check_kept(&state, &said.state, s, lent);
     if (state.pairs > state.rounds)
         MUST(no_search);
     met.calls++;
@@ -467,7 +542,7 @@ static void check_end(const joshkamber_round *said, const sheet *s, const areas 
     give_back_all(&own);
 }
 
-/* Rounds with looks between, to the end and further. */
+/* Rounds with looks between, to the end and further. The end does not depend on the trains from which a round begins: now and then they are lost. */
 static void whole_search(const sheet *s, areas *lent) {
     joshkamber_start begun = start(s, lent);
     joshkamber_round said = {.state = begun.state};
@@ -481,6 +556,8 @@ static void whole_search(const sheet *s, areas *lent) {
         MUST(said.state.rounds == ++rounds && rounds <= most);
         if (one_in(3))
             MUST(look(said.state, lent) == before);
+        if (one_in(4))
+            memset(said.state.train, 0, orders_of(s));
     }
     MUST(!is_no_search(&said));
     check_end(&said, s, lent);
@@ -538,7 +615,7 @@ static void damage_field(joshkamber_state *state, const sheet *s) {
     case 2: state->limit = one_in(2) ? (int64_t)value : (int64_t)within(0, 400) - 200; break;
     case 3: state->last = (uint32_t)value; break;
     case 4: state->ended = (uint8_t)value; break;
-    case 5: state->order[j] = (uint8_t)value; break;
+    case 5: state->train[j] = (uint8_t)value; break;
     default: state->latest[j] = (uint8_t)value; break;
     }
 }
@@ -548,47 +625,80 @@ static void damage_bytes(joshkamber_state *state, size_t count) {
         bytes[bits() % sizeof *state] = (unsigned char)bits();
 }
 
-/* A state from which a round can be made, but none of this search: the orders' latest trains, limit, counts and last arrival are changed. */
+/* Other trains for one order, for two or for all, each of the sheet or none. */
+static void damage_trains(joshkamber_state *state, const sheet *s) {
+    size_t n = orders_of(s), j = bits() % n, other = bits() % n;
+    uint8_t i = (uint8_t)within(0, (uint32_t)trains_of(s)), of_j = state->train[j];
+
+    switch (within(0, 3)) {
+    case 0: state->train[j] = i; break;
+    case 1: state->train[j] = state->train[other], state->train[other] = of_j; break;
+    case 2: memset(state->train, one_in(2) ? i : 0, n); break;
+    default:
+        for (j = 0; j < n; j++)
+            state->train[j] = (uint8_t)within(0, (uint32_t)trains_of(s));
+    }
+}
+
+/* A state from which a round can be made if the latest trains leave enough places, but none of this search: trains and latest trains, limit, counts and
+ * last arrival are changed, and what stands behind the sheet's orders. */
 static void damage_unseen(joshkamber_state *state, const sheet *s) {
     state->rounds = bits() % figure_of(s);
     state->pairs = state->rounds == 0 ? 0 : bits() % (state->rounds + 1);
     state->limit = one_in(3) ? INT64_MAX : one_in(2) ? INT64_MIN : (int64_t)within(0, 400) - 200;
     state->last = one_in(2) ? (uint32_t)bits() : state->last;
     state->ended = 0;
-    memset(state->latest, one_in(2) ? (int)trains_of(s) : state->latest[0], orders_of(s));
+    memset(state->train, (int)within(0, UINT8_MAX), MOST_ORDERS);
+    memset(state->train, 0, orders_of(s));
+    memset(state->latest, one_in(2) ? (int)trains_of(s) : state->latest[0], MOST_ORDERS);
 }
 
 /* `other` is a state of another sheet. */
 static void damage(joshkamber_state *state, const joshkamber_state *other, const sheet *s) {
-    switch (within(0, 7)) {
+    switch (within(0, 9)) {
     case 0: damage_bytes(state, 20 * sizeof *state); break;
     case 1: *state = no_state; break;
     case 2: *state = *other; break;
     case 3: damage_bytes(state, within(1, 4)); break;
     case 4: damage_unseen(state, s); break;
-    case 5: damage_field(state, s); /* two fields */
+    case 5: case 6: damage_trains(state, s); break;
+    case 7: damage_field(state, s); /* two fields */
     /* fall through */
     default: damage_field(state, s); break;
     }
 }
 
-/* Calls go on from a damaged state and come to an end. */
+/* Whether a round call takes a damaged state, in areas that are long enough. */
+static bool is_taken(const joshkamber_state *state, const sheet *s) {
+    if (!may_be_taken(state, s))
+        return false;
+    if (state->ended != 0)
+        return true;
+    int faults = faults_of(state, s);
+    met.unknown += faults == UNKNOWN;
+    met.overfull += faults == OVERFULL;
+    met.out_of_order += faults == OUT_OF_ORDER;
+    return faults == 0;
+}
+
+/* Calls go on from a damaged state, if it is taken, and come to an end. */
 static void damaged_states(const sheet *s, areas *lent, const joshkamber_state *other) {
     size_t most = bound(s).most;
 
     for (int turn = 0; turn < 24; turn++) {
-        joshkamber_state state = some_state(s, lent);
+        joshkamber_state sound = some_state(s, lent), state = sound;
         damage(&state, other, s);
-        size_t rounds = 0;
-        joshkamber_round said;
-        do {
-            look(state, lent);
-            said = make_round(state, s, lent);
-            if (same_state(&state, &no_state) || state.rounds > most)
-                MUST(is_no_search(&said));
-            state = said.state;
-            MUST(rounds++ <= most);
-        } while (!said.ended);
+        bool taken = is_taken(&state, s);
+        met.orderly += taken && state.ended == 0 && memcmp(state.train, sound.train, orders_of(s)) != 0;
+        look(state, lent);
+        joshkamber_round said = make_round(state, s, lent);
+        MUST(is_no_search(&said) == !taken);
+        for (size_t rounds = 1; !said.ended; rounds++) {
+            bool too_many = said.state.rounds == most;
+            look(said.state, lent);
+            said = make_round(said.state, s, lent);
+            MUST(is_no_search(&said) == too_many && rounds <= most);
+        }
     }
 }
 
@@ -643,8 +753,10 @@ static void damaged_sheets(const sheet *s, areas *lent, const joshkamber_state *
 
 static void check_layout(void) {
     MUST(sizeof(joshkamber_state) == 432);
-    MUST(offsetof(joshkamber_state, limit) == 16 && offsetof(joshkamber_state, last) == 24 && offsetof(joshkamber_state, ended) == 28);
-    MUST(offsetof(joshkamber_state, order) == 29 && offsetof(joshkamber_state, latest) == 229);
+    MUST(offsetof(joshkamber_state, pairs) == 0 && offsetof(joshkamber_state, rounds) == 8 && offsetof(joshkamber_state, limit) == 16);
+    MUST(offsetof(joshkamber_state, last) == 24 && offsetof(joshkamber_state, ended) == 28);
+    MUST(offsetof(joshkamber_state, train) == 29 && offsetof(joshkamber_state, latest) == 229);
+    MUST(sizeof no_state.train + sizeof no_state.latest == 2 * MOST_ORDERS); /* two bytes an order */
     MUST(sizeof(joshkamber_bound) == 24 && offsetof(joshkamber_bound, most) == 16);
     MUST(sizeof(joshkamber_start) == 448 && offsetof(joshkamber_start, state) == 16);
     MUST(sizeof(joshkamber_round) == 472 && offsetof(joshkamber_round, ended) == 16 && offsetof(joshkamber_round, pairs) == 24);
@@ -677,11 +789,12 @@ int main(void) {
         check_sheet(MOST_ORDERS);
     printf("watching: %zu calls on %zu sheets (%zu with places to spare, %zu with an empty train in the last plan): %zu looks, %zu starts refused (%zu "
            "for want of places), %zu rounds that go on, %zu ends (%zu without a schedule), %zu told as no search; asked %zu times how long the list may "
-           "be, %zu of them refused\n",
+           "be, %zu of them refused; damaged trains: %zu unknown, %zu overfull, %zu out of order, %zu orderly\n",
            met.calls, met.sheets, met.to_spare, met.empty_train, met.looks, met.starts_refused, met.too_few_places, met.going, met.ended, met.refused,
-           met.no_search, met.bounds, met.bounds_refused);
+           met.no_search, met.bounds, met.bounds_refused, met.unknown, met.overfull, met.out_of_order, met.orderly);
     MUST(met.going > 10000 && met.ended > 1000 && met.refused > 100 && met.no_search > 10000 && met.starts_refused > 1000);
     MUST(4 * met.to_spare > met.sheets && 4 * (met.sheets - met.to_spare) > met.sheets && 10 * met.empty_train > met.sheets);
     MUST(met.too_few_places > 100 && met.bounds > 10000 && met.bounds_refused > 1000);
+    MUST(met.unknown > 100 && met.overfull > 100 && met.out_of_order > 100 && met.orderly > 1000);
     return 0;
 }

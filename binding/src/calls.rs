@@ -110,7 +110,8 @@ pub struct Check {
     pub rounds: usize,
 }
 
-/// Where a search that is watched stands between two calls. Any numbers may stand in it.
+/// Where a search that is watched stands between two calls. Of each order it has two bytes: its train in the last round, 0 for none, and its latest
+/// train. Any numbers may stand in it.
 #[repr(C)]
 #[derive(Clone, Copy, Debug, PartialEq, Eq)]
 pub struct State {
@@ -119,7 +120,7 @@ pub struct State {
     pub limit: i64,
     pub last: u32,
     pub ended: u8,
-    pub order: [u8; MOST_ORDERS],
+    pub train: [u8; MOST_ORDERS],
     pub latest: [u8; MOST_ORDERS],
 }
 

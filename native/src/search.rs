@@ -1,5 +1,5 @@
 //! The rounds of an admitted sheet, for benchmarks and comparison; unbroken for listing, choosing and checking, or one by one.
-//! While they run, two bytes are kept for each order, its train and its latest train; and, for choosing, the plan of every listed pair.
+//! While they run, two bytes are kept for each order, its train and its latest train; and, but for rounds one by one, the plan of every listed pair.
 
 use crate::limits::*;
 use crate::plan::{Entry, Listing, Pair, Plan, Times};

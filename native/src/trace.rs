@@ -47,35 +47,70 @@ impl Trace {
     }
 }
 
+/// A round: its loading and, unless step 2 stops it, the steps that follow.
+pub struct Round {
+    pub train: Vec<u8>,
+    pub rest: Option<Rest>,
+}
+
+/// What steps 2 to 5 of a round come to.
+pub struct Rest {
+    pub times: Vec<Times>,
+    /// The last arrival and the worst lateness.
+    pub pair: Pair,
+    /// The worst lateness is below the limit, and becomes it.
+    pub better: bool,
+    /// The latest trains as step 4 lowers them.
+    pub latest: Vec<usize>,
+    /// Step 5 stops.
+    pub crowded: bool,
+}
+
 pub fn trace(sheet: &Sheet) -> Trace {
     let (n, q) = sheet.size();
     let mut latest = vec![q; n];
     let mut limit = None; // above everything
     let mut trace = Trace::default();
     loop {
-        let loads = load(sheet, &latest);
-        let train = train_of_order(&loads, n);
-        trace.loadings.push(Loading { latest: latest.clone(), train: train.clone() });
-        let Some(times) = times_of(sheet, &loads) else {
+        let Round { train, rest } = round(sheet, &latest, limit);
+        trace.loadings.push(Loading { latest, train: train.clone() });
+        let Some(rest) = rest else {
             trace.end_round(Outcome::Stopped);
             return trace;
         };
-        let worst =
-            (0..n).map(|j| sheet.orders.lateness(j, times[usize::from(train[j]) - 1].arrival)).max().expect("an order");
-        if limit.is_none_or(|y| worst < y) {
-            limit = Some(worst);
-            record(&mut trace, worst, Plan { train_of_order: train, times: times.clone() });
+        if rest.better {
+            limit = Some(rest.pair.lateness);
+            record(&mut trace, Entry { pair: rest.pair, plan: Plan { train_of_order: train, times: rest.times } });
         } else {
             trace.end_round(Outcome::Nothing);
         }
-        let below = |j: usize, i: usize| limit.is_some_and(|y| sheet.orders.lateness(j, times[i - 1].arrival) < y);
-        for (j, last) in latest.iter_mut().enumerate() {
-            *last = (1..=*last).rev().find(|&i| below(j, i)).unwrap_or(0);
-        }
-        if crowded(&sheet.capacity, &latest) {
+        if rest.crowded {
             return trace;
         }
+        latest = rest.latest;
     }
+}
+
+/// One round, from these latest trains and this limit; where there is none it is above everything.
+pub fn round(sheet: &Sheet, latest: &[usize], limit: Option<i64>) -> Round {
+    let loads = load(sheet, latest);
+    let train = train_of_order(&loads, latest.len());
+    let rest = times_of(sheet, &loads).map(|times| rest(sheet, &train, times, latest, limit));
+    Round { train, rest }
+}
+
+/// Steps 3 to 5.
+fn rest(sheet: &Sheet, train: &[u8], times: Vec<Times>, latest: &[usize], limit: Option<i64>) -> Rest {
+    let lateness = |j: usize, i: usize| sheet.orders.lateness(j, times[i - 1].arrival);
+    let worst = (0..train.len()).map(|j| lateness(j, train[j].into())).max().expect("an order");
+    let better = limit.is_none_or(|y| worst < y);
+    let limit = if better { Some(worst) } else { limit };
+    let below = |j: usize, i: usize| limit.is_some_and(|y| lateness(j, i) < y);
+    let lowered = |(j, &last): (usize, &usize)| (1..=last).rev().find(|&i| below(j, i)).unwrap_or(0);
+    let latest: Vec<usize> = latest.iter().enumerate().map(lowered).collect();
+    let crowded = crowded(&sheet.capacity, &latest);
+    let pair = Pair { arrival: times.last().expect("a train").arrival, lateness: worst };
+    Rest { times, pair, better, latest, crowded }
 }
 
 /// Step 1: the orders of each train, by index.
@@ -134,13 +169,12 @@ fn fixed_times(timetable: &Timetable, greatest: &[u32]) -> Option<Vec<Times>> {
 }
 
 /// Step 3, where the worst lateness is below the limit.
-fn record(trace: &mut Trace, worst: i64, plan: Plan) {
-    let pair = Pair { arrival: plan.times.last().expect("a train").arrival, lateness: worst };
-    let replaces = trace.entries.last().is_some_and(|last| last.pair.arrival == pair.arrival);
+fn record(trace: &mut Trace, entry: Entry) {
+    let replaces = trace.entries.last().is_some_and(|last| last.pair.arrival == entry.pair.arrival);
     if replaces {
         trace.entries.pop();
     }
-    trace.entries.push(Entry { pair, plan });
+    trace.entries.push(entry);
     trace.end_round(if replaces { Outcome::Replaced } else { Outcome::Listed });
 }
 

@@ -27,7 +27,7 @@ pub enum Said {
 /// A search between two calls.
 #[derive(Clone, Debug, PartialEq, Eq)]
 pub struct Watched {
-    search: Search,
+    pub search: Search,
     /// How many pairs are recorded.
     pairs: usize,
 }

@@ -8,6 +8,7 @@ mod checked;
 mod checking;
 mod chosen;
 mod filled;
+mod foretold;
 mod ladders;
 mod lengths;
 mod listed;

@@ -2,6 +2,7 @@
 
 use crate::cause::cause_of;
 use crate::listed::numbers_of;
+use crate::states::leaves_places;
 use binding::areas::{PlanAreas, SearchAreas};
 use binding::calls::{look, Round, State};
 use binding::exported::ExportedSheet;
@@ -9,7 +10,7 @@ use binding::product::PRODUCT;
 use native::finality::is_later;
 use native::limits::MOST_ORDERS;
 use native::plan::{time_numbers, Pair};
-use native::planner::Counts;
+use native::planner::{put_first, Counts};
 use native::refusal::Refusal;
 use native::sheet::Sheet;
 use native::watching::{self, Said, Watched};
@@ -17,7 +18,13 @@ use native::watching::{self, Said, Watched};
 /// What stands beside a cause of a start.
 #[rustfmt::skip]
 pub const NO_STATE: State =
-    State { pairs: 0, rounds: 0, limit: 0, last: 0, ended: 0, order: [0; MOST_ORDERS], latest: [0; MOST_ORDERS] };
+    State { pairs: 0, rounds: 0, limit: 0, last: 0, ended: 0, train: [0; MOST_ORDERS], latest: [0; MOST_ORDERS] };
+
+/// Before the first round no order has a train, and each may ride the last one; limit and last arrival are the search's own.
+fn first_state(sheet: &Sheet, start: &State) -> State {
+    let latest = [sheet.capacity.len() as u8; MOST_ORDERS];
+    State { latest, limit: start.limit, last: start.last, ..NO_STATE }
+}
 
 /// What is said, in the product's numbers, beside a state: noughts where the search goes on, and beside a cause.
 pub fn reply_of(said: Said, state: State) -> Round {
@@ -54,7 +61,8 @@ impl Both<'_> {
         let (exported, mut areas) = (ExportedSheet::from(sheet), SearchAreas::of_lengths(lengths));
         let start = exported.start_in(&mut areas);
         assert_eq!(start.cause, cause_of(&answer), "{lengths:?} {sheet:?}");
-        assert!(answer.is_ok() || start.state == NO_STATE, "{lengths:?} {sheet:?}");
+        let first = answer.as_ref().map_or(NO_STATE, |_| first_state(sheet, &start.state));
+        assert_eq!(start.state, first, "{lengths:?} {sheet:?}");
         assert!(areas.guarded_but([0; 3]), "{lengths:?} {sheet:?}");
         let own_areas = watching::SearchAreas {
             pairs: vec![Pair::default(); pairs / 2],
@@ -79,15 +87,31 @@ impl Both<'_> {
 
     /// Both make a round, or say the end again, and leave the same in the areas.
     pub fn round(&mut self) {
-        let at_end = self.said != Said::GoesOn;
-        let said = self.own.round(self.sheet, &mut self.own_areas);
-        let reply = self.exported.round_in(&self.state, &mut self.areas);
-        assert_eq!(reply, reply_of(said, reply.state), "{:?}", self.sheet);
-        assert!(!at_end || (said, reply.state) == (self.said, self.state), "{:?}", self.sheet);
+        let (said_before, before) = (self.said, self.state);
+        let at_end = said_before != Said::GoesOn;
+        self.said = self.own.round(self.sheet, &mut self.own_areas);
         self.rounds += usize::from(!at_end);
-        (self.said, self.state) = (said, reply.state);
-        assert_eq!((self.state.rounds, self.state.ended), (self.rounds, u8::from(reply.ended)), "{:?}", self.sheet);
+        let reply = self.exported.round_in(&before, &mut self.areas);
+        assert_eq!(reply, reply_of(self.said, self.foretold()), "{:?}", self.sheet);
+        self.state = reply.state;
+        assert!(!at_end || (self.said, self.state) == (said_before, before), "{:?}", self.sheet);
         self.check_areas();
+    }
+
+    /// The product's state, whole, after a round that the independent search has made: it has that search's trains and latest trains, and behind the sheet's
+    /// orders what was there. Where step 2 stopped the round, which is an end that leaves enough places, both stay as they were.
+    fn foretold(&self) -> State {
+        let Both { sheet, own, own_areas, said, rounds, .. } = self;
+        let (pairs, ended) = (own.look(&own_areas.pairs), *said != Said::GoesOn);
+        let mut state = State { pairs: pairs.len(), rounds: *rounds, ended: u8::from(ended), ..self.state };
+        if let Some(pair) = pairs.last() {
+            (state.last, state.limit) = (pair.arrival, pair.lateness);
+        }
+        if !(ended && leaves_places(&own.search.latest, &sheet.capacity)) {
+            put_first(&own.search.train, &mut state.train);
+            put_first(&own.search.latest, &mut state.latest);
+        }
+        state
     }
 
     /// Both show the same pairs, and what was seen before stays. Gives whether the last pair was replaced since.

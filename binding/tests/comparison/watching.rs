@@ -1,12 +1,13 @@
 //! The search by single rounds: lists of calls on drawn and stored sheets, refused starts, and damaged states.
 
 use crate::filled::filled;
+use crate::foretold::{next_state, write};
 use crate::ladders::ladders;
 use crate::lengths::longer;
 use crate::share::Share;
 use crate::size::Size;
 use crate::spoil::spoil;
-use crate::states::{damaged, is_taken};
+use crate::states::{damaged, is_taken, DamagedTrains};
 use crate::watched::{reply_of, Both, NO_STATE};
 use binding::areas::SearchAreas;
 use binding::calls::{look, Round, Start, State};
@@ -14,6 +15,7 @@ use binding::exported::ExportedSheet;
 use native::admission::admit;
 use native::draw::small;
 use native::ladder::Ladder;
+use native::limits::MOST_ORDERS;
 use native::planner::{figure, Counts};
 use native::reader::read;
 use native::refusal::*;
@@ -21,7 +23,7 @@ use native::rng::Rng;
 use native::sheet::{Form, Sheet, FORMS};
 use native::stored::stored_sheets;
 use native::watching::Said;
-use std::mem::{offset_of, size_of};
+use std::mem::{offset_of, size_of, size_of_val};
 
 /// What was met.
 #[derive(Debug, Default)]
@@ -90,8 +92,9 @@ fn started<'a>(sheet: &'a Sheet, rng: &mut Rng) -> Both<'a> {
 #[test]
 fn layout() {
     assert_eq!((offset_of!(State, pairs), offset_of!(State, rounds), offset_of!(State, limit)), (0, 8, 16));
-    assert_eq!((offset_of!(State, last), offset_of!(State, ended), offset_of!(State, order)), (24, 28, 29));
+    assert_eq!((offset_of!(State, last), offset_of!(State, ended), offset_of!(State, train)), (24, 28, 29));
     assert_eq!((offset_of!(State, latest), size_of::<State>()), (229, 432));
+    assert_eq!(size_of_val(&NO_STATE.train) + size_of_val(&NO_STATE.latest), 2 * MOST_ORDERS, "two bytes an order");
     assert_eq!((offset_of!(Start, cause), offset_of!(Start, state), size_of::<Start>()), (0, 16, 448));
     assert_eq!((offset_of!(Round, cause), offset_of!(Round, ended), offset_of!(Round, pairs)), (0, 16, 24));
     assert_eq!((offset_of!(Round, rounds), offset_of!(Round, state), size_of::<Round>()), (32, 40, 472));
@@ -216,25 +219,21 @@ fn said_of(state: &State) -> Said {
     }
 }
 
-/// A round from any state: told as no search, or as its end again, with nothing changed; or made, and then only the front of each area is written.
+/// A round from any state: told as no search, or as its end again, with nothing changed; or made, and then it is right for what stands in the state.
 fn check_round(sheet: &Sheet, state: &State, areas: &mut SearchAreas) -> Round {
-    let (lengths, found) = (areas.lengths(), areas.clone());
+    let (lengths, mut expected) = (areas.lengths(), areas.clone());
     let reply = ExportedSheet::from(sheet).round_in(state, areas);
     if !is_taken(state, sheet, lengths) {
-        assert_eq!(reply, reply_of(Said::Ended(Counts { pairs: 0, rounds: 0 }), *state), "{lengths:?} {sheet:?}");
-        assert!(areas.same_but([0; 3], &found), "{state:?} {lengths:?} {sheet:?}");
+        let no_search = Said::Ended(Counts { pairs: 0, rounds: 0 });
+        assert_eq!(reply, reply_of(no_search, *state), "{lengths:?} {sheet:?}");
     } else if state.ended != 0 {
         assert_eq!(reply, reply_of(said_of(state), *state), "{sheet:?}");
-        assert!(areas.same_but([0; 3], &found), "{state:?} {sheet:?}");
     } else {
-        let (n, q) = sheet.size();
-        let next = reply.state;
+        let (next, recorded) = next_state(state, sheet);
         assert_eq!(reply, reply_of(said_of(&next), next), "{state:?} {sheet:?}");
-        assert_eq!((next.rounds, next.order), (state.rounds + 1, state.order), "{state:?} {sheet:?}");
-        assert!((state.pairs..=state.pairs + 1).contains(&next.pairs), "{state:?} {sheet:?}");
-        assert!(2 * next.pairs <= lengths[0], "{state:?} {sheet:?}");
-        assert!(areas.same_but([2 * next.pairs, n, 3 * q], &found), "{state:?} {sheet:?}");
+        recorded.iter().for_each(|entry| write(entry, next.pairs, &mut expected));
     }
+    assert!(areas.same_but([0; 3], &expected), "{state:?} {lengths:?} {sheet:?}");
     reply
 }
 
@@ -264,13 +263,14 @@ fn some_search(sheet: &Sheet, rng: &mut Rng) -> (State, SearchAreas) {
 fn damaged_states() {
     let mut rng = Rng::new(116);
     let (mut other, mut calls, mut no_search, mut made) = (NO_STATE, 0, 0, 0);
-    let mut share = Share::default();
+    let (mut share, mut trains) = (Share::default(), DamagedTrains::default());
     for turn in 0..40_000 {
         let sheet = small(&mut rng, FORMS[turn % 2], if turn % 4 == 0 { 32 } else { 9 });
         let (sound, mut areas) = some_search(&sheet, &mut rng);
         let mut state = damaged(&mut rng, &sound, &other, &sheet);
         let mut rounds = 0;
         share.meet_searched(&sheet);
+        trains.meet(&state, &sound, &sheet, areas.lengths());
         loop {
             check_look(&state, &mut areas);
             let reply = check_round(&sheet, &state, &mut areas);
@@ -287,6 +287,7 @@ fn damaged_states() {
         other = sound;
     }
     print!("watching, damaged states: {calls} calls on {share}; ");
-    println!("{made} rounds made and gone on from, {no_search} states told as of no search");
+    println!("{made} rounds made and gone on from, {no_search} states told as of no search; {trains}");
     assert!(no_search > 10_000 && made > 2_000 && share.is_good(), "{no_search} {made} {share:?}");
+    assert!(trains.is_good(), "{trains:?}");
 }
