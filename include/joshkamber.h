@@ -255,6 +255,7 @@ joshkamber_start joshkamber_start_timetable(joshkamber_timetable_sheet sheet, co
  *
  *    a train that is not on this sheet, or has more orders than places
  *    an order on an earlier train than another, though it may ride that one's train and is released later (or at the same time, with a greater number)
+ *    an order on a train, though it may ride a later one that is not full
  *
  * Then it says that the search has ended with 0 pairs after 0 rounds and cause number 0, as no search ends; it gives the state back unchanged and
  * changes no area. Where it cannot tell, it makes a round or says an end, of which nothing is promised but that the pairs told of lie in the area. */

@@ -36,7 +36,7 @@ static void wrong(int line, const char *what) {
 /* What was met, to be told at the end. */
 static struct {
     size_t sheets, to_spare, empty_train, calls, bounds, bounds_refused, looks, going, ended, refused, no_search, starts_refused, too_few_places;
-    size_t unknown, overfull, out_of_order, orderly; /* damaged trains, of states that all else would let pass */
+    size_t unknown, overfull, out_of_order, not_full, orderly, none; /* damaged trains, of states that all else would let pass */
 } met;
 
 /* ---- drawn numbers: splitmix64 with a fixed seed */
@@ -321,15 +321,19 @@ static bool is_first_state(const joshkamber_state *state, const sheet *s) {
 }
 
 /* What is wrong with trains from which no loading begins. */
-enum { UNKNOWN = 1, OVERFULL = 2, OUT_OF_ORDER = 4 };
+enum { UNKNOWN = 1, OVERFULL = 2, OUT_OF_ORDER = 4, NOT_FULL = 8 };
+
+/* Whether order y has a train and could ride train i, a later one. */
+static bool could_ride(size_t y, size_t i, const joshkamber_state *state) {
+    return 1 <= state->train[y] && state->train[y] < i && i <= state->latest[y];
+}
 
 /* Whether order y, on an earlier train, could ride the train of x and is not below x by release and number. */
 static bool is_passed_over(size_t y, size_t x, const joshkamber_state *state, const sheet *s) {
     const uint32_t *release = releases_of(s);
-    const uint8_t *train = state->train;
     bool below = release[y] < release[x] || (release[y] == release[x] && y < x);
 
-    return 1 <= train[y] && train[y] < train[x] && train[x] <= state->latest[y] && !below;
+    return could_ride(y, state->train[x], state) && !below;
 }
 
 /* The faults of the trains, on an admitted sheet; 0 if they are orderly. */
@@ -343,8 +347,12 @@ static int faults_of(const joshkamber_state *state, const sheet *s) {
         for (size_t y = 0; y < n; y++)
             faults |= is_passed_over(y, x, state, s) ? OUT_OF_ORDER : 0;
     }
-    for (size_t i = 1; i <= q; i++)
-        faults |= riders[i] > capacities_of(s)[i - 1] ? OVERFULL : 0;
+    for (size_t i = 1; i <= q; i++) {
+        size_t places = capacities_of(s)[i - 1];
+        faults |= riders[i] > places ? OVERFULL : 0;
+        for (size_t y = 0; y < n; y++)
+            faults |= riders[i] != places && could_ride(y, i, state) ? NOT_FULL : 0;
+    }
     return faults;
 }
 
@@ -625,18 +633,29 @@ static void damage_bytes(joshkamber_state *state, size_t count) {
         bytes[bits() % sizeof *state] = (unsigned char)bits();
 }
 
-/* Other trains for one order, for two or for all, each of the sheet or none. */
+/* Each order before train i loses its train or rides i. */
+static void raise_to(uint8_t i, joshkamber_state *state, size_t n) {
+    for (size_t j = 0; j < n; j++)
+        if (state->train[j] < i)
+            state->train[j] = one_in(2) ? i : 0;
+}
+
+/* Other trains for one order, for two, for those before train i or for all, each of the sheet or none; or one train that is not on it. */
 static void damage_trains(joshkamber_state *state, const sheet *s) {
     size_t n = orders_of(s), j = bits() % n, other = bits() % n;
-    uint8_t i = (uint8_t)within(0, (uint32_t)trains_of(s)), of_j = state->train[j];
+    uint32_t q = (uint32_t)trains_of(s);
+    uint8_t i = (uint8_t)within(1, q), of_j = state->train[j];
 
-    switch (within(0, 3)) {
-    case 0: state->train[j] = i; break;
-    case 1: state->train[j] = state->train[other], state->train[other] = of_j; break;
-    case 2: memset(state->train, one_in(2) ? i : 0, n); break;
+    switch (within(0, 8)) {
+    case 0: state->train[j] = 0; break;
+    case 1: state->train[j] = i; break;
+    case 2: case 3: state->train[j] = state->train[other], state->train[other] = of_j; break;
+    case 4: memset(state->train, 0, n); break;
+    case 5: case 6: raise_to(i, state, n); break;
+    case 7: state->train[j] = (uint8_t)within(q + 1, UINT8_MAX); break;
     default:
         for (j = 0; j < n; j++)
-            state->train[j] = (uint8_t)within(0, (uint32_t)trains_of(s));
+            state->train[j] = (uint8_t)within(0, q);
     }
 }
 
@@ -655,14 +674,14 @@ static void damage_unseen(joshkamber_state *state, const sheet *s) {
 
 /* `other` is a state of another sheet. */
 static void damage(joshkamber_state *state, const joshkamber_state *other, const sheet *s) {
-    switch (within(0, 9)) {
+    switch (within(0, 11)) {
     case 0: damage_bytes(state, 20 * sizeof *state); break;
     case 1: *state = no_state; break;
     case 2: *state = *other; break;
     case 3: damage_bytes(state, within(1, 4)); break;
     case 4: damage_unseen(state, s); break;
-    case 5: case 6: damage_trains(state, s); break;
-    case 7: damage_field(state, s); /* two fields */
+    case 5: case 6: case 7: case 8: damage_trains(state, s); break;
+    case 9: damage_field(state, s); /* two fields */
     /* fall through */
     default: damage_field(state, s); break;
     }
@@ -678,6 +697,7 @@ static bool is_taken(const joshkamber_state *state, const sheet *s) {
     met.unknown += faults == UNKNOWN;
     met.overfull += faults == OVERFULL;
     met.out_of_order += faults == OUT_OF_ORDER;
+    met.not_full += faults == NOT_FULL;
     return faults == 0;
 }
 
@@ -688,8 +708,9 @@ static void damaged_states(const sheet *s, areas *lent, const joshkamber_state *
     for (int turn = 0; turn < 24; turn++) {
         joshkamber_state sound = some_state(s, lent), state = sound;
         damage(&state, other, s);
-        bool taken = is_taken(&state, s);
-        met.orderly += taken && state.ended == 0 && memcmp(state.train, sound.train, orders_of(s)) != 0;
+        bool taken = is_taken(&state, s), orderly = taken && state.ended == 0 && memcmp(state.train, sound.train, orders_of(s)) != 0;
+        met.orderly += orderly;
+        met.none += orderly && memcmp(state.train, no_state.train, orders_of(s)) == 0;
         look(state, lent);
         joshkamber_round said = make_round(state, s, lent);
         MUST(is_no_search(&said) == !taken);
@@ -789,12 +810,13 @@ int main(void) {
         check_sheet(MOST_ORDERS);
     printf("watching: %zu calls on %zu sheets (%zu with places to spare, %zu with an empty train in the last plan): %zu looks, %zu starts refused (%zu "
            "for want of places), %zu rounds that go on, %zu ends (%zu without a schedule), %zu told as no search; asked %zu times how long the list may "
-           "be, %zu of them refused; damaged trains: %zu unknown, %zu overfull, %zu out of order, %zu orderly\n",
+           "be, %zu of them refused; damaged trains: %zu unknown, %zu overfull, %zu out of order, %zu not full, %zu orderly (%zu without any train)\n",
            met.calls, met.sheets, met.to_spare, met.empty_train, met.looks, met.starts_refused, met.too_few_places, met.going, met.ended, met.refused,
-           met.no_search, met.bounds, met.bounds_refused, met.unknown, met.overfull, met.out_of_order, met.orderly);
+           met.no_search, met.bounds, met.bounds_refused, met.unknown, met.overfull, met.out_of_order, met.not_full, met.orderly, met.none);
     MUST(met.going > 10000 && met.ended > 1000 && met.refused > 100 && met.no_search > 10000 && met.starts_refused > 1000);
     MUST(4 * met.to_spare > met.sheets && 4 * (met.sheets - met.to_spare) > met.sheets && 10 * met.empty_train > met.sheets);
     MUST(met.too_few_places > 100 && met.bounds > 10000 && met.bounds_refused > 1000);
-    MUST(met.unknown > 100 && met.overfull > 100 && met.out_of_order > 100 && met.orderly > 1000);
+    MUST(met.unknown > 100 && met.overfull > 100 && met.out_of_order > 100 && met.not_full > 100);
+    MUST(met.orderly > 1000 && met.none > 100 && met.orderly - met.none > 100);
     return 0;
 }

@@ -4,9 +4,10 @@ use crate::watched::NO_STATE;
 use binding::areas::SearchAreas;
 use binding::calls::State;
 use native::limits::{MOST_ORDERS, MOST_TRAINS};
-use native::planner::{bound, figure};
+use native::planner::{bound, figure, put_first};
 use native::rng::Rng;
 use native::sheet::Sheet;
+use native::trace::round;
 use std::fmt;
 
 /// Whether a call takes the state for one of a search on this sheet, in areas of these lengths: the sheet and the areas pass the tests of a start, and
@@ -23,23 +24,26 @@ pub fn is_taken(state: &State, sheet: &Sheet, lengths: [usize; 3]) -> bool {
 }
 
 /// How many kinds of fault the trains of a state can have.
-const FAULTS: usize = 3;
+const FAULTS: usize = 4;
 
 /// What is wrong with the trains of a state, so that no loading begins from them; orderly ones have none of these faults. Train 0 is none.
 ///
 /// - A train is not on the sheet.
 /// - A train has more orders than places.
 /// - An order y rides an earlier train than x, may ride the train of x, and is not below x by release, then number.
+/// - An order has a train and may ride a later one that has not just as many orders as places.
 fn faults(state: &State, sheet: &Sheet) -> [bool; FAULTS] {
     let (n, q) = sheet.size();
     let (train, latest) = (&state.train[..n], &state.latest[..n]);
     let riders = |i: usize| train.iter().filter(|&&of_order| usize::from(of_order) == i).count();
+    let places = |i: usize| sheet.capacity[i - 1] as usize;
     let could_ride = |y: usize, i: u8| 1 <= train[y] && train[y] < i && i <= latest[y];
     let is_below = |y: usize, x: usize| (sheet.orders.release[y], y) < (sheet.orders.release[x], x);
     [
         train.iter().any(|&i| usize::from(i) > q),
-        (1..=q).any(|i| riders(i) > sheet.capacity[i - 1] as usize),
+        (1..=q).any(|i| riders(i) > places(i)),
         (0..n).any(|x| (0..n).any(|y| could_ride(y, train[x]) && !is_below(y, x))),
+        (1..=q).any(|i| riders(i) != places(i) && (0..n).any(|y| could_ride(y, i as u8))),
     ]
 }
 
@@ -89,24 +93,22 @@ impl DamagedTrains {
 
 impl fmt::Display for DamagedTrains {
     fn fmt(&self, f: &mut fmt::Formatter) -> fmt::Result {
-        let DamagedTrains { faulty: [unknown, overfull, out_of_order], orderly, none } = self;
-        write!(
-            f,
-            "damaged trains: {unknown} unknown, {overfull} overfull, {out_of_order} out of order, {orderly} orderly ({none} without any train)"
-        )
+        let DamagedTrains { faulty: [unknown, overfull, out_of_order, not_full], orderly, none } = self;
+        write!(f, "damaged trains: {unknown} unknown, {overfull} overfull, {out_of_order} out of order, {not_full} not full, ")?;
+        write!(f, "{orderly} orderly ({none} without any train)")
     }
 }
 
 /// The state with some damage; `other` is one of another sheet.
 pub fn damaged(rng: &mut Rng, state: &State, other: &State, sheet: &Sheet) -> State {
     let mut state = *state;
-    match rng.index(10) {
+    match rng.index(12) {
         0 => state = wild(rng),
         1 => state = NO_STATE,
         2 => state = *other,
         3 => hide(rng, &mut state, sheet),
         4 => (0..2).for_each(|_| damage_field(rng, &mut state, sheet)),
-        5 | 6 => damage_trains(rng, &mut state, sheet),
+        5..=8 => damage_trains(rng, &mut state, sheet),
         _ => damage_field(rng, &mut state, sheet),
     }
     state
@@ -142,18 +144,28 @@ fn hide(rng: &mut Rng, state: &mut State, sheet: &Sheet) {
     state.latest[n..].fill_with(|| rng.byte());
 }
 
-/// Other trains for one order, for two or for all, each of the sheet or none.
+/// Other trains for one order, for two, for those before train i or for all, each of the sheet or none; every second time after another loading.
 fn damage_trains(rng: &mut Rng, state: &mut State, sheet: &Sheet) {
     let (n, q) = sheet.size();
     let (at, other, i) = (rng.index(n), rng.index(n), rng.index(q) as u8 + 1);
-    match rng.index(6) {
+    if state.ended == 0 && rng.one_in(2) {
+        load_otherwise(rng, state, sheet);
+    }
+    match rng.index(8) {
         0 => state.train[at] = 0,
         1 => state.train[at] = i,
-        2 => state.train.swap(at, other),
-        3 => state.train[..n].fill(0),
-        4 => state.train[..n].fill(i),
+        2 | 3 => state.train.swap(at, other),
+        4 => state.train[..n].fill(0),
+        5 | 6 => state.train[..n].iter_mut().filter(|train| **train < i).for_each(|train| *train = rng.pick(&[0, i])),
         _ => state.train[..n].fill_with(|| rng.index(q + 1) as u8),
     }
+}
+
+/// The trains of a loading by other latest trains, of which none is earlier: orderly ones.
+fn load_otherwise(rng: &mut Rng, state: &mut State, sheet: &Sheet) {
+    let (n, q) = sheet.size();
+    let latest: Vec<usize> = state.latest[..n].iter().map(|&last| rng.within(last.into(), q as u32) as usize).collect();
+    put_first(&round(sheet, &latest, None).train, &mut state.train);
 }
 
 fn damage_field(rng: &mut Rng, state: &mut State, sheet: &Sheet) {
