@@ -1,10 +1,20 @@
 // Columns of trains: train i stands at place i - 1.
 use model::limits::MOST_TRAINS;
 ghost use mathlib.Core.Path.{_≡_};
-ghost use Prim.Native.Nat.{_≤_};
+ghost use Prim.Native.Nat.{_≤_, max};
 ghost use lib.Dec.{leb};
 ghost use Rattle.numbers.specs.Counting.{nth, each};
 ghost use Rattle.model.specs.Limits.{train-counts};
+
+// The larger of two numbers.
+pub fn larger(a: u32, b: u32) -> u32
+    ensures { λ r. ⌜ r ≡ max a b ⌝ }
+{
+    if a < b {
+        return b;
+    }
+    a
+}
 
 // The element of train i.
 pub fn of_train(column: &[u32; MOST_TRAINS], i: u8) -> u32

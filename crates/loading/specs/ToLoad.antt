@@ -1,21 +1,32 @@
--- WHAT A LOADING TAKES, in columns: the first n elements of those of orders count, and train i has its element at place i - 1.
+-- WHAT A LOADING TAKES AND GIVES, in columns: the first n elements of those of orders count, and train i has its element at place i - 1.
+use mathlib.Core.Path.{_≡_}
+use mathlib.Core.Bool.{cond}
 use mathlib.Core.List.{List}
 use Prim.Native.Nat.{ℕ, _≤_, _<_}
+use lib.Dec.{leb}
 use lib.ListN.{take}
 use Rattle.numbers.specs.Counting.{at, nth}
-use Rattle.model.specs.Limits.{order-counts, train-counts}
+use Rattle.model.specs.Limits.{order-counts, train-counts, capacity-range, last-instant}
 use Rattle.rounds.specs.Loading.{load}
 use Rattle.columns.specs.Columns.{UpTo}
-use Rattle.loading.specs.Ranks.{InOrder}
+use Rattle.loading.specs.Orderly.{Orderly}
 
 -- document 01's loading of n orders and q trains: where these are a sheet's, the sheet's loading
 abbrev pub loading-of : (n q : ℕ) (release : ℕ → ℕ) (capacity latest : List ℕ) → List ℕ
 loading-of n q release capacity latest = load n q release (nth capacity) (take n latest)
 
--- n orders of these releases and q trains: `order` has the orders by rank, and with these latest trains every order is loaded
-pub record ToLoad (n q : ℕ) (release : ℕ → ℕ) (capacity order latest : List ℕ) : Type 0 where
+-- n orders and q trains inside document 01's limits, and trains to begin from
+pub record ToLoad (n q : ℕ) (release capacity latest train : List ℕ) : Type 0 where
   pub few-orders : n ≤ order-counts .most
   pub few-trains : q ≤ train-counts .most
-  pub ordered : InOrder release n order
-  pub up-to : UpTo q n latest
-  pub loaded : (j : ℕ) → j < n → 1 ≤ at (loading-of n q release capacity latest) j
+  pub releases : UpTo last-instant n release
+  pub capacities : UpTo (capacity-range .most) q capacity
+  pub may-ride : UpTo q n latest
+  pub begins : Orderly n q (at release) (nth capacity) latest train
+
+-- the train that order j keeps: none, where it is above its latest
+abbrev pub stays : (latest train : List ℕ) → ℕ → ℕ
+stays latest train j = cond (leb (at train j) (at latest j)) (at train j) 0
+
+abbrev pub Stays : (n : ℕ) (latest before after : List ℕ) → Type 0
+Stays n latest before after = (j : ℕ) → j < n → at after j ≡ stays latest before j

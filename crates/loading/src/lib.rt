@@ -1,48 +1,156 @@
-// Step 1 of a round: loading, in one pass. The orders are taken from the greatest (release, number) down, and each rides the latest train that it may
-// ride and that has a place left. `OnePassLaws` shows that this is the loading of document 01, train by train.
-pub mod ranking;
+// Step 1 of a round: loading. It begins from the trains of the round before, which must be orderly for the latest trains of this one: orders that are too late
+// lose their trains, and then each train, from the last down, takes in the greatest order that could come while there is room or that order beats the least on
+// the train. `BeginLaws` shows that this is the loading of document 01, whatever trains it began from.
+mod moving;
+pub mod orderly;
+mod standing;
 
+use crate::moving::TRAINS_AND_NONE;
+use crate::moving::count_riders;
+use crate::moving::last_waited_for;
+use crate::moving::leave_late;
+use crate::moving::move_order;
+use crate::standing::greatest_outside;
+use crate::standing::least_on;
+use crate::standing::lowest;
 use columns::of_train;
 use model::limits::MOST_ORDERS;
 use model::limits::MOST_TRAINS;
 ghost use mathlib.Core.Path.{_≡_};
-ghost use Prim.Native.Nat.{ℕ, _≤_};
+ghost use Prim.Native.Nat.{_-_, _%_, _≤_};
 ghost use lib.ListN.{take};
-ghost use Rattle.numbers.specs.Counting.{nth};
-ghost use Rattle.model.specs.Limits.{train-counts};
+ghost use Rattle.numbers.specs.Counting.{at, nth};
+ghost use Rattle.model.specs.Limits.{train-counts, capacity-range};
 ghost use Rattle.loading.specs.ToLoad.{loading-of, ToLoad};
-ghost use Rattle.loading.specs.Open.{LastOpen, SomeOpen};
+ghost use Rattle.loading.specs.Standing.{place};
+ghost use Rattle.loading.specs.Turns.{Turn, needed};
+ghost use Rattle.loading.specs.Stage.{Counted, Riding, Stage, Unmoved};
 
-// The last train, not above this one, with a place left, where there is one.
-fn open_train(left: &[u32; MOST_TRAINS], mut train: u8) -> u8
-    requires { ⌜ (train ≤ train-counts .most) × SomeOpen (nth (now left)) train ⌝ }
-    ensures { λ r. ⌜ LastOpen (nth (now (left .entry))) train r ⌝ }
+// The place of the order with this standing.
+fn place_of(standing: u32) -> usize
+    requires { ⌜ 1 ≤ standing % 256 ⌝ }
+    ensures { λ r. ⌜ r ≡ place standing ⌝ }
 {
-    while of_train(left, train) == 0 {
-        train -= 1;
-    }
-    train
+    (standing % 256 - 1) as usize
 }
 
-// The train of each of n orders, from the latest trains, where these load every order. `order` has the orders by rank; the releases themselves are not
-// asked for: the result is the loading for whatever releases have that order.
-pub fn load(
-    mut n: usize,
-    capacity: [u32; MOST_TRAINS],
-    order: [u8; MOST_ORDERS],
-    latest: [u8; MOST_ORDERS],
-) -> [u8; MOST_ORDERS]
-    requires { ⌜ ((q : ℕ) × (release : ℕ → ℕ) × ToLoad n q release capacity order latest) ⌝ }
-    ensures { λ r. ⌜ ((q : ℕ) (release : ℕ → ℕ) → ToLoad n q release capacity order latest → take n r ≡ loading-of n q release capacity latest) ⌝ }
+// One turn of train i: the greatest order that could come comes in; where there is no room it must beat the least on the train, who then rides none.
+// Whether one came in.
+fn take_turn(
+    n: usize,
+    i: u8,
+    places: u8,
+    release: &[u32; MOST_ORDERS],
+    latest: &[u8; MOST_ORDERS],
+    train: &mut [u8; MOST_ORDERS],
+    riders: &mut [u8; TRAINS_AND_NONE],
+) -> bool
+    requires { ⌜ Riding n (now release) (now train) (now riders) × (1 ≤ i) × (i ≤ train-counts .most) ⌝ }
+    ensures turns { λ r. ⌜ Turn n (at (now (release .entry))) (now (latest .entry)) i places (now (train .entry)) (now (train .exit)) r ⌝ }
+    ensures counts { λ r. ⌜ Counted n (now (train .exit)) (now (riders .exit)) ⌝ }
 {
-    let mut left = capacity;
-    let mut train = latest;
-    while n > 0 {
-        n -= 1;
-        let j = order[n] as usize;
-        let i = open_train(&left, train[j]);
-        left[(i - 1) as usize] -= 1;
-        train[j] = i;
+    let best = greatest_outside(n, i, release, latest, train);
+    if riders[i as usize] < places {
+        if best == 0 {
+            return false;
+        }
+        move_order(n, place_of(best), i, train, riders);
+        return true;
+    }
+    let least = least_on(n, i, release, train);
+    if best <= least {
+        return false;
+    }
+    move_order(n, place_of(least), 0, train, riders);
+    move_order(n, place_of(best), i, train, riders);
+    true
+}
+
+// The turns of train i, until nothing moves, or it is full and everybody has a train.
+fn settle_train(
+    n: usize,
+    i: u8,
+    capacity: &[u32; MOST_TRAINS],
+    release: &[u32; MOST_ORDERS],
+    latest: &[u8; MOST_ORDERS],
+    train: &mut [u8; MOST_ORDERS],
+    riders: &mut [u8; TRAINS_AND_NONE],
+)
+    requires { ⌜ Riding n (now release) (now train) (now riders) × (1 ≤ i) × (i ≤ train-counts .most) × (nth (now capacity) i ≤ capacity-range .most) ⌝ }
+    requires { ⌜ Stage n (at (now release)) (nth (now capacity)) (now latest) i (now train) ⌝ }
+    ensures settles { λ _. ⌜ Stage n (at (now (release .entry))) (nth (now (capacity .entry))) (now (latest .entry)) (i - 1) (now (train .exit)) ⌝ }
+    ensures keeps { λ _. ⌜ Unmoved n i (now (train .entry)) (now (train .exit)) ⌝ }
+    ensures counts { λ _. ⌜ Counted n (now (train .exit)) (now (riders .exit)) ⌝ }
+{
+    let places = of_train(capacity, i) as u8;
+    while (riders[i as usize] < places) | (riders[0] > 0) {
+        if !take_turn(n, i, places, release, latest, train, riders) {
+            break;
+        }
+    }
+}
+
+// Whether train i needs a turn: it was full and has lost an order; or one without a train may ride it, and finds room or may beat one on it.
+fn needs_turn(
+    waiting: u8,
+    riders: u8,
+    places: u8,
+    held: u8,
+    low: u32,
+    top: u8,
+    challenger: u32,
+    i: u8,
+) -> bool
+    ensures { λ r. ⌜ r ≡ needed waiting riders places held low top challenger i ⌝ }
+{
+    let short = riders < places;
+    (short & (held == places)) | (((waiting > 0) & (i <= top)) & (short | (low < challenger)))
+}
+
+// The train of each of n orders, from the trains before.
+pub fn load(
+    n: usize,
+    q: usize,
+    release: &[u32; MOST_ORDERS],
+    capacity: [u32; MOST_TRAINS],
+    latest: &[u8; MOST_ORDERS],
+    mut train: [u8; MOST_ORDERS],
+) -> [u8; MOST_ORDERS]
+    requires { ⌜ ToLoad n q (now release) capacity (now latest) train ⌝ }
+    ensures { λ r. ⌜ take n r ≡ loading-of n q (at (now (release .entry))) capacity (now (latest .entry)) ⌝ }
+{
+    let mut riders = count_riders(n, &train);
+    let held = riders;
+    let low = lowest(n, release, &train);
+    leave_late(n, latest, &mut train, &mut riders);
+    let mut top = last_waited_for(n, latest, &train);
+    let mut challenger = greatest_outside(n, 1, release, latest, &train);
+    let mut i = q;
+    while i > 0 {
+        let places = capacity[i - 1] as u8;
+        if needs_turn(
+            riders[0],
+            riders[i],
+            places,
+            held[i],
+            low[i],
+            top,
+            challenger,
+            i as u8,
+        ) {
+            settle_train(
+                n,
+                i as u8,
+                &capacity,
+                release,
+                latest,
+                &mut train,
+                &mut riders,
+            );
+            top = last_waited_for(n, latest, &train);
+            challenger = greatest_outside(n, 1, release, latest, &train);
+        }
+        i -= 1;
     }
     train
 }

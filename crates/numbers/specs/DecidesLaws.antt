@@ -64,6 +64,19 @@ pub test-false : {P : Type 0} {b : Bool} → Decides P b → ¬ P → b ≡ fals
 test-false {b = true} s p = absurd (p (s .sound tt))
 test-false {b = false} s p = refl
 
+-- a test has one outcome
+pub one-outcome : {A : Type 0} {b : Bool} → b ≡ true → b ≡ false → A
+one-outcome e f = absurd (let z : _≡_ {A = ℕ} 0 1 = cc in omega arith)
+
+-- the outcome of a test, from that of its opposite
+pub not-yet : (b : Bool) → not b ≡ true → b ≡ false
+not-yet true e = sym e
+not-yet false e = refl
+
+pub by-now : (b : Bool) → not b ≡ false → b ≡ true
+by-now true e = refl
+by-now false e = sym e
+
 -- both of two tests that are passed at once
 pub and-true : (a b : Bool) → a && b ≡ true → (a ≡ true) × (b ≡ true)
 and-true true b e = (refl, e)

@@ -6,7 +6,7 @@ use mathlib.Core.List.{List, []}
 use Prim.Native.Nat.{ℕ, _≤_, _<_}
 use native.Mathlib.Omega.{arith}
 use lib.Dec.{leb}
-use Rattle.numbers.specs.DecidesLaws.{decides-le, test-means, test-fails}
+use Rattle.numbers.specs.DecidesLaws.{decides-le, test-means, test-fails, one-outcome}
 use Rattle.numbers.specs.OneMoreLaws.{All, all-new}
 use Rattle.numbers.specs.Over.{over}
 use Rattle.model.specs.Sheet.{Sheet}
@@ -24,7 +24,6 @@ use Rattle.rounds.specs.Areas.{PlanAreas, plan-times}
 use Rattle.rounds.specs.ChoosingLaws.{choice-settled, choice-at-end}
 use Rattle.rounds.specs.Told.{areas, ChoiceTold}
 use Rattle.search.specs.Shows.{shown-entry, recorded-by}
-use Rattle.search.specs.ShowsLaws.{one-outcome}
 use Rattle.search.specs.RunLaws.{over-means}
 use Rattle.search.specs.declared.Progress.{Progress}
 use Rattle.planner.specs.Outcome.{choice-so}

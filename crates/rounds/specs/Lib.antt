@@ -23,7 +23,8 @@ pub mod Cases
 pub mod CaseLaws
 pub mod SumLaws
 pub mod GreedyLaws
-pub mod LoadLaws
+pub mod Settled
+pub mod SettledLaws
 pub mod TimingRuleLaws
 pub mod PairListLaws
 pub mod ScheduleLaws

@@ -33,7 +33,7 @@ use Rattle.rounds.specs.Rounds.{Search, going, ended, loading, times, se
 use Rattle.rounds.specs.RoundsBound.{rounds-bound}
 use Rattle.rounds.specs.SumLaws.{sum-lt, sum-near}
 use Rattle.rounds.specs.GreedyLaws.{Greedy, uncrowded, released-in-any, every-loaded}
-use Rattle.rounds.specs.LoadLaws.{load-length, load-greedy}
+use Rattle.rounds.specs.SettledLaws.{load-length, load-greedy}
 use Rattle.rounds.specs.TimingRuleLaws.{NoLater, none-covers, least-run}
 use Rattle.rounds.specs.ScheduleLaws.{worst-same, Run, rule, rides}
 use Rattle.rounds.specs.ShortTrainLaws.{leaves-at-once}

@@ -1,7 +1,7 @@
 -- What holds where a round is begun, and what its parts leave in the progress r of the progress p.
 use mathlib.Core.Path.{_≡_}
 use mathlib.Core.Bool.{false, cond}
-use Prim.Native.Nat.{ℕ, _+_, _<_}
+use Prim.Native.Nat.{ℕ, _<_}
 use lib.IntN.{ℤ}
 use lib.ListN.{take}
 use lib.Signed.{ltZ}
@@ -9,20 +9,16 @@ use Rattle.model.specs.Sheet.{Sheet}
 use Rattle.rounds.specs.Lowering.{lower, crowded}
 use Rattle.rounds.specs.RoundsBound.{rounds-bound}
 use Rattle.columns.specs.Columns.{UpTo}
-use Rattle.loading.specs.Ranks.{Ordered}
+use Rattle.search.specs.Shows.{BeginsFrom}
 use Rattle.search.specs.declared.Progress.{Progress}
 
--- a round can be made from it: the orders are in order, each has a latest train of the sheet, they are not crowded, and fewer rounds were made than the sheet's
--- figure
+-- a round can be made from it: each order has a latest train of the sheet, they are not crowded, the trains are orderly, and fewer rounds were made than the
+-- sheet's figure
 pub record Begun (s : Sheet) (p : Progress) : Type 0 where
-  pub ordered : Ordered s (p .order)
+  pub orderly : BeginsFrom s p
   pub latest : UpTo (s .trains) (s .orders) (p .latest)
   pub uncrowded : crowded (s .orders) (s .capacity) (take (s .orders) (p .latest)) (s .trains) ≡ false
   pub within : p .rounds < rounds-bound s
-
--- the orders stay as they are, and the round counts
-abbrev pub Counted : (p r : Progress) → Type 0
-Counted p r = (r .order ≡ p .order) × (r .rounds ≡ p .rounds + 1)
 
 -- step 3 of a plan with the worst lateness z and the last arrival f: whether it is better; then they are the limit and the arrival recorded last
 abbrev pub Graded : (p r : Progress) (z : ℤ) (f : ℕ) → Type 0

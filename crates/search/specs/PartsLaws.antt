@@ -8,7 +8,7 @@ use lib.Dec.{ltb}
 use lib.ListN.{take}
 use lib.Seq.{getD-take}
 use Rattle.numbers.specs.Counting.{at}
-use Rattle.numbers.specs.DecidesLaws.{Decides, decides-lt, decides-and, decides-not, decides-iff, test-false, test-fails}
+use Rattle.numbers.specs.DecidesLaws.{Decides, decides-lt, decides-and, decides-not, decides-iff, test-false, test-fails, one-outcome}
 use Rattle.model.specs.Sheet.{Sheet}
 use Rattle.model.specs.Limits.{most-pairs, last-arrival}
 use Rattle.model.specs.Memory.{sheetOf}
@@ -24,11 +24,9 @@ use Rattle.rounds.specs.OneRoundLaws.{Going, every-order-loaded}
 use Rattle.rounds.specs.InvariantLaws.{reached, below-bound}
 use Rattle.rounds.specs.BoundLaws.{bound-most}
 use Rattle.columns.specs.Columns.{UpTo, Loaded}
-use Rattle.loading.specs.Ranks.{Ordered}
 use Rattle.timing.specs.declared.Times.{Times}
 use Rattle.lowering.specs.Ranged.{ArrivesTo}
-use Rattle.search.specs.Shows.{Stands, goes-on, has-ended, Reached}
-use Rattle.search.specs.ShowsLaws.{one-outcome}
+use Rattle.search.specs.Shows.{Stands, goes-on, has-ended, BeginsFrom, Reached}
 use Rattle.search.specs.Parts.{Begun}
 use Rattle.search.specs.declared.Progress.{Progress}
 
@@ -40,7 +38,7 @@ begun s a p R on = go (rounds s (R .made) (start s)) refl (R .shows .stands)
     go x e (goes-on {c = c} {latest = latest} {y = y} {recorded = recorded} f made l v) =
         let g : Going s (R .made) c latest y recorded = reached s a (R .made) c latest y recorded e in
         record {
-          ordered = R .shows .ordered;
+          orderly = R .shows .orderly;
           latest = λ j u. rw (ap (λ (m : List ℕ). at m j) (sym l) ∙ getD-take (s .orders) (p .latest) j 0 u) at (g .upto j u);
           uncrowded = rw l (test-false (decides-crowded (s .orders) (s .capacity) latest (s .trains))
               (λ x. omega (arith, x .more, g .fits (x .train) (x .among))));
@@ -60,16 +58,18 @@ module _ (s : Sheet) (a : Admitted s) (p : Progress) (b : Begun s p) where
   pub few-rounds : p .rounds < most-pairs
   few-rounds = omega (arith, b .within, bound-most s a)
 
--- whether a round can be made, by tests of the orders and of their latest trains
-pub decides-begun : (s : Sheet) (p : Progress) {ordered low : Bool} → Decides (Ordered s (p .order)) ordered
-    → Decides (UpTo (s .trains) (s .orders) (p .latest)) low → (b : Bool) → b ≡ crowded (s .orders) (s .capacity) (take (s .orders) (p .latest)) (s .trains)
-    → Decides (Begun s p) (((ordered && low) && not b) && ltb (p .rounds) (rounds-bound s))
-decides-begun s p o l b is =
+-- whether a round can be made, by tests of the latest trains and of the trains
+pub decides-begun : (s : Sheet) (p : Progress) → UpTo (s .trains) (s .orders) (p .latest) → {orderly : Bool} → Decides (BeginsFrom s p) orderly
+    → (b : Bool) → b ≡ crowded (s .orders) (s .capacity) (take (s .orders) (p .latest)) (s .trains)
+    → Decides (Begun s p) ((orderly && not b) && ltb (p .rounds) (rounds-bound s))
+decides-begun s p low o b is =
     let d = decides-crowded (s .orders) (s .capacity) (take (s .orders) (p .latest)) (s .trains) in
     rw is
-    (decides-iff (λ x. record { ordered = x .0 .0 .0; latest = x .0 .0 .1; uncrowded = x .0 .1; within = x .1 })
-    (λ x. (((x .ordered, x .latest), x .uncrowded), x .within))
-    (decides-and (decides-and (decides-and o l) (decides-iff (test-false d) (test-fails d) (decides-not d))) (decides-lt _ _)))
+    (decides-iff (λ x. record { orderly = x .0 .0; latest = low; uncrowded = x .0 .1; within = x .1 }) (λ x. ((x .orderly, x .uncrowded), x .within))
+    (decides-and (decides-and o (decides-iff (test-false d) (test-fails d) (decides-not d))) (decides-lt _ _)))
+
+pub not-begun : (s : Sheet) (p : Progress) → ¬ UpTo (s .trains) (s .orders) (p .latest) → Decides (Begun s p) false
+not-begun s p high = record { sound = λ x. absurd x; complete = λ b. high (b .latest) }
 
 -- a plan that was made arrives in time
 pub made-in-time : (s : Sheet) → Admitted s → (train : List ℕ) (t : Times)

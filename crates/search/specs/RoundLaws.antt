@@ -2,25 +2,29 @@
 use mathlib.Core.Path.{_≡_, refl, sym, ap, _∙_, subst}
 use mathlib.Core.Bool.{Bool, true, false, cond}
 use mathlib.Core.List.{List}
-use Prim.Native.Nat.{ℕ, suc}
+use Prim.Native.Nat.{ℕ, suc, _+_}
 use native.Mathlib.Omega.{arith}
 use lib.IntN.{ℤ}
 use lib.ListN.{take}
-use Rattle.numbers.specs.Counting.{nth}
+use lib.Seq.{getD-take}
+use Rattle.numbers.specs.Counting.{at, nth}
+use Rattle.numbers.specs.DecidesLaws.{one-outcome}
 use Rattle.model.specs.Sheet.{Sheet}
 use Rattle.model.specs.Lateness.{worst}
 use Rattle.rounds.specs.Timing.{Timed, stopped, timed}
 use Rattle.rounds.specs.Recording.{Plan, Entry, record-entry, recorded-arrival}
 use Rattle.rounds.specs.RecordingLaws.{arrival-recorded}
 use Rattle.rounds.specs.Lowering.{lower, crowded}
+use Rattle.rounds.specs.LoweringLaws.{lower-at, latest-below-is}
 use Rattle.rounds.specs.Rounds.{Search, going, ended, recorded-in, loading, times, settle, grade, depart, round}
-use Rattle.search.specs.Shows.{Stands, goes-on, has-ended, Shows, shown-entry, recorded-by, RoundMade, Makes}
-use Rattle.search.specs.ShowsLaws.{one-outcome}
-use Rattle.search.specs.Parts.{Counted, Graded, Settled}
+use Rattle.columns.specs.Columns.{UpTo}
+use Rattle.loading.specs.BeginLaws.{orderly-next}
+use Rattle.search.specs.Shows.{Stands, goes-on, has-ended, BeginsFrom, Shows, shown-entry, recorded-by, RoundMade, Makes}
+use Rattle.search.specs.Parts.{Graded, Settled}
 use Rattle.search.specs.declared.Progress.{Progress}
 
--- the progress p goes on, and r is left of it
-module _ (s : Sheet) (p r : Progress) (on : p .ended ≡ false) (counted : Counted p r) where
+-- the progress p goes on, and r is left of it: one round more, and trains that the next may begin from
+module _ (s : Sheet) (p r : Progress) (on : p .ended ≡ false) (counted : r .rounds ≡ p .rounds + 1) where
   abbrev made : ℕ
   made = suc (p .rounds)
 
@@ -32,7 +36,7 @@ module _ (s : Sheet) (p r : Progress) (on : p .ended ≡ false) (counted : Count
   shown recorded = going (p .rounds) latest (p .limit) recorded
 
   one-more : r .rounds ≡ made
-  one-more = omega (arith, counted .1)
+  one-more = omega (arith, counted)
 
   -- what the round makes of that search
   record Next (recorded : List Entry) : Type 0 where
@@ -42,15 +46,15 @@ module _ (s : Sheet) (p r : Progress) (on : p .ended ≡ false) (counted : Count
     records : recorded-in search ≡ recorded-by s r recorded
     last : p .last ≡ recorded-arrival recorded → r .last ≡ recorded-arrival (recorded-by s r recorded)
 
-  makes : ((recorded : List Entry) → Next recorded) → Makes s p r
-  makes next x h = go x (h .stands) h
+  makes : BeginsFrom s r → ((recorded : List Entry) → Next recorded) → Makes s p r
+  makes orderly next x h = go x (h .stands) h
     where
       go : (x : Search) → Stands (s .orders) p x → Shows s p x → RoundMade s r x
       go x (has-ended e c) h = one-outcome e on
       go x (goes-on {recorded = recorded} e c l y) h =
           let n = next recorded in
           let shows : Shows s r (n .search) =
-          record { ordered = rw (counted .0) (h .ordered); stands = n .stands; last = n .last (h .last) ∙ ap recorded-arrival (sym (n .records)) } in
+          record { orderly = orderly; stands = n .stands; last = n .last (h .last) ∙ ap recorded-arrival (sym (n .records)) } in
           rw (← c, ← l, ← y) (record { shows = subst (Shows s r) (sym (n .is)) shows; records = ap recorded-in (n .is) ∙ n .records })
 
   departs : (recorded : List Entry) (t : Timed) → times s (loading s latest) ≡ t
@@ -59,10 +63,10 @@ module _ (s : Sheet) (p r : Progress) (on : p .ended ≡ false) (counted : Count
   departs recorded t e = rw e
 
   -- STEP 2 STOPS IT
-  pub round-stopped : times s (loading s latest) ≡ stopped → r .better ≡ false → r .last ≡ p .last → r .ended ≡ true → Makes s p r
+  pub round-stopped : BeginsFrom s r → times s (loading s latest) ≡ stopped → r .better ≡ false → r .last ≡ p .last → r .ended ≡ true → Makes s p r
   unfolding depart
-  round-stopped stops better last over =
-      makes (λ recorded.
+  round-stopped orderly stops better last over =
+      makes orderly (λ recorded.
       record {
         search = ended made recorded;
         is = departs recorded stopped stops;
@@ -115,12 +119,27 @@ module _ (s : Sheet) (p r : Progress) (on : p .ended ≡ false) (counted : Count
       go true e = (has-ended e one-more, refl)
       go false e = (goes-on e one-more (settled .0) refl, refl)
 
+  -- the next loading may begin from the trains of this one, since no latest train has risen
+  next-orderly : UpTo (s .trains) (s .orders) (p .latest) → plan .train ≡ loading s latest
+      → take (s .orders) (r .latest) ≡ lower (s .orders) (s .weight) (s .due) F (r .limit) latest → BeginsFrom s r
+  next-orderly low loads lowered =
+      orderly-next (s .orders) (s .trains) (s .release) (s .capacity) latest (r .latest) (r .train) loads
+      (λ j l. omega (arith, getD-take (s .orders) (p .latest) j 0 l, low j l))
+      (λ j l.
+      omega (
+        arith,
+        getD-take (s .orders) (r .latest) j 0 l,
+        ap (λ (t : List ℕ). at t j) lowered,
+        lower-at (s .orders) (s .weight) (s .due) F (r .limit) latest j l,
+        latest-below-is (s .weight j) (s .due j) F (r .limit) (at latest j) .not-above,
+      ))
+
   -- OR IT GOES THROUGH ALL STEPS
-  pub round-made : plan .train ≡ loading s latest → times s (loading s latest) ≡ timed (plan .departure) (plan .arrival) (plan .window)
+  pub round-made : UpTo (s .trains) (s .orders) (p .latest) → plan .train ≡ loading s latest → times s (loading s latest) ≡ timed (plan .departure) (plan .arrival) (plan .window)
       → Graded p r z (F (s .trains)) → Settled s p r F → Makes s p r
   unfolding depart
-  round-made loads runs graded settled =
-      makes (λ recorded.
+  round-made low loads runs graded settled =
+      makes (next-orderly low loads (settled .0)) (λ recorded.
       let (stands, records) = settles settled (recorded-by s r recorded) in
       record {
         search = settle s made latest (r .limit) (recorded-by s r recorded) F;

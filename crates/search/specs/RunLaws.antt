@@ -3,6 +3,7 @@ use mathlib.Core.Path.{_≡_, refl, sym, ap, _∙_, subst}
 use mathlib.Core.Bool.{Bool, true, false, not}
 use mathlib.Core.List.{[]}
 use Prim.Native.Nat.{ℕ, _+_, _<_}
+use Rattle.numbers.specs.DecidesLaws.{one-outcome}
 use Rattle.model.specs.Sheet.{Sheet}
 use Rattle.model.specs.Admission.{Admitted}
 use Rattle.rounds.specs.Rounds.{Search, going, ended, recorded-in, start, rounds, recorded-after}
@@ -10,17 +11,7 @@ use Rattle.rounds.specs.RoundsBound.{rounds-bound}
 use Rattle.rounds.specs.RoundsLaws.{one-round-more}
 use Rattle.rounds.specs.InvariantLaws.{below-bound}
 use Rattle.search.specs.Shows.{Stands, goes-on, has-ended, Shows, recorded-by, Makes}
-use Rattle.search.specs.ShowsLaws.{one-outcome}
 use Rattle.search.specs.declared.Progress.{Progress}
-
--- the outcome of a test, from that of its opposite
-pub not-yet : (b : Bool) → not b ≡ true → b ≡ false
-not-yet true e = sym e
-not-yet false e = refl
-
-pub by-now : (b : Bool) → not b ≡ false → b ≡ true
-by-now true e = refl
-by-now false e = sym e
 
 module _ (s : Sheet) where
   -- ---- before the first round

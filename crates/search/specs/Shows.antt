@@ -8,7 +8,7 @@ use lib.ListN.{take}
 use Rattle.model.specs.Sheet.{Sheet}
 use Rattle.rounds.specs.Recording.{Entry, record-entry, recorded-arrival}
 use Rattle.rounds.specs.Rounds.{Search, going, ended, recorded-in, start, round, rounds}
-use Rattle.loading.specs.Ranks.{Ordered}
+use Rattle.loading.specs.Orderly.{Orderly}
 use Rattle.search.specs.declared.Progress.{Progress}
 
 -- the rounds made, and while it goes on the latest trains of n orders and the limit
@@ -17,8 +17,12 @@ pub data Stands (n : ℕ) (p : Progress) : Search → Type 0 where
       → Stands n p (going c latest y recorded)
   has-ended : {c : ℕ} {recorded : List Entry} → p .ended ≡ true → p .rounds ≡ c → Stands n p (ended c recorded)
 
+-- its trains are such as the next loading may begin from
+abbrev pub BeginsFrom : Sheet → Progress → Type 0
+BeginsFrom s p = Orderly (s .orders) (s .trains) (s .release) (s .capacity) (p .latest) (p .train)
+
 pub record Shows (s : Sheet) (p : Progress) (x : Search) : Type 0 where
-  pub ordered : Ordered s (p .order)
+  pub orderly : BeginsFrom s p
   pub stands : Stands (s .orders) p x
   -- the arrival of the pair recorded last
   pub last : p .last ≡ recorded-arrival (recorded-in x)

@@ -21,9 +21,10 @@ pub fn round(mut progress: Progress, sheet: Sheet) -> Progress
 {
     let n = sheet.order_count;
     let capacity = sheet.capacity;
-    let order = progress.order;
+    let release = sheet.release;
     let latest = progress.latest;
-    let train = loading::load(n, capacity, order, latest);
+    let before = progress.train;
+    let train = loading::load(n, sheet.train_count, &release, capacity, &latest, before);
     let timed = timing::time_trains(sheet, train);
     progress.better = false;
     progress.rounds = progress.rounds + 1;

@@ -14,12 +14,9 @@ pub fn start_search(sheet: Sheet) -> Progress
     requires { ⌜ Admitted (sheetOf sheet) ⌝ }
     ensures { λ r. ⌜ Shows (sheetOf sheet) r (start (sheetOf sheet)) ⌝ }
 {
-    let release = sheet.release;
-    let order = loading::ranking::rank_orders(sheet.order_count, &release);
     let trains = sheet.train_count as u8;
     let no_time = [0; MOST_TRAINS];
     Progress {
-        order,
         latest: [trains; MOST_ORDERS],
         train: [0; MOST_ORDERS],
         departure: no_time,

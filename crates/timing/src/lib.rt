@@ -1,4 +1,5 @@
 // Step 2 of a round: the departures, arrivals and windows of the trains. Train i stands at place i - 1 of every list.
+use columns::larger;
 use columns::last_of;
 use columns::none_above;
 use columns::of_train;
@@ -37,16 +38,6 @@ pub struct Times {
     pub window: [u8; MOST_TRAINS],
 }
 
-// The later of two instants.
-fn later(a: u32, b: u32) -> u32
-    ensures { λ r. ⌜ r ≡ max a b ⌝ }
-{
-    if a < b {
-        return b;
-    }
-    a
-}
-
 // The greatest release on each train, of n orders; 0 for one that carries none.
 fn releases(n: usize, release: [u32; MOST_ORDERS], train: [u8; MOST_ORDERS]) -> [u32; MOST_TRAINS]
     requires { ⌜ (n ≤ order-counts .most) × OnTrains n train ⌝ }
@@ -56,7 +47,7 @@ fn releases(n: usize, release: [u32; MOST_ORDERS], train: [u8; MOST_ORDERS]) -> 
     let mut j: usize = 0;
     while j < n {
         let m = (train[j] - 1) as usize;
-        released[m] = later(release[j], released[m]);
+        released[m] = larger(release[j], released[m]);
         j += 1;
     }
     released
@@ -77,12 +68,12 @@ fn find_departures(sheet: Sheet, released: [u32; MOST_TRAINS]) -> Leaving
     let mut i: usize = 0;
     let mut m: usize = 0;
     while (i < sheet.train_count) & (m < sheet.window_count) {
-        t = later(t, released[i]);
+        t = larger(t, released[i]);
         if to[m] < t {
             m += 1;
             continue;
         }
-        t = later(t, from[m]);
+        t = larger(t, from[m]);
         departure[i] = t;
         window[i] = (m + 1) as u8;
         t += sheet.gap;
@@ -108,7 +99,7 @@ fn arrivals_to(
     }
     let mut arrival = arrivals_to(gap, running, departure, i - 1);
     let j = (i - 1) as usize;
-    arrival[j] = later(arrival[j - 1] + gap, own);
+    arrival[j] = larger(arrival[j - 1] + gap, own);
     arrival
 }
 

@@ -5,6 +5,7 @@ use mathlib.Core.List.{List}
 use Prim.Native.Nat.{ℕ}
 use native.Mathlib.Omega.{arith}
 use lib.Dec.{eqb}
+use Rattle.numbers.specs.DecidesLaws.{one-outcome}
 use Rattle.model.specs.Sheet.{Sheet}
 use Rattle.model.specs.declared.RoundReply.the-variants.{GoesOn}
 use Rattle.rounds.specs.Recording.{Entry}
@@ -13,7 +14,6 @@ use Rattle.rounds.specs.ByRound.{SearchAreas, Calls, search-by, said}
 use Rattle.rounds.specs.ByRoundLaws.{ended-so}
 use Rattle.front.specs.Front.{look-gives, look-final, further-round, end-comes, end-unbroken}
 use Rattle.search.specs.Shows.{Stands, goes-on, has-ended}
-use Rattle.search.specs.ShowsLaws.{one-outcome}
 use Rattle.watch.specs.State.{progress-of}
 use Rattle.watch.specs.LeftBy.{LeftBy}
 use Rattle.watch.specs.AnyCalls.{Made, starts, moves, looks, AsUnbroken, AfterCalls}

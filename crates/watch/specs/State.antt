@@ -20,17 +20,16 @@ no-state =
       limit = pos 0;
       last = 0;
       ended = 0;
-      order = replicate (order-counts .most) 0;
+      train = replicate (order-counts .most) 0;
       latest = replicate (order-counts .most) 0;
     }
 
--- the progress that a state stands for; the plan of the last round is not kept
+-- the progress that a state stands for; the times of the last round are not kept
 abbrev pub progress-of : State → Progress
 progress-of x =
     record {
-      order = x .order;
       latest = x .latest;
-      train = replicate (order-counts .most) 0;
+      train = x .train;
       departure = replicate (train-counts .most) 0;
       arrival = replicate (train-counts .most) 0;
       window = replicate (train-counts .most) 0;
@@ -50,7 +49,7 @@ state-of p pairs =
       limit = p .limit;
       last = p .last;
       ended = cond (p .ended) 1 0;
-      order = p .order;
+      train = p .train;
       latest = p .latest;
     }
 

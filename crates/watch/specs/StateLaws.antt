@@ -7,7 +7,7 @@ use Prim.Native.Nat.{ℕ}
 use native.Mathlib.Omega.{arith}
 use lib.Dec.{eqb}
 use lib.ListN.{length}
-use Rattle.numbers.specs.DecidesLaws.{decides-eq, decided, cond-yes, cond-no, test-true, test-false}
+use Rattle.numbers.specs.DecidesLaws.{decides-eq, decided, cond-yes, cond-no, test-true, test-false, by-now, not-yet}
 use Rattle.model.specs.Sheet.{Sheet}
 use Rattle.model.specs.declared.Refusal.the-variants.{NoSchedule}
 use Rattle.model.specs.declared.RoundReply.{RoundReply}
@@ -19,14 +19,13 @@ use Rattle.rounds.specs.Answers.{list-of}
 use Rattle.rounds.specs.ByRound.{SearchAreas, Calls, search-by, end-of, said}
 use Rattle.rounds.specs.ByRoundLaws.{said-going, said-ended}
 use Rattle.search.specs.Shows.{Stands, goes-on, has-ended, Shows}
-use Rattle.search.specs.RunLaws.{not-yet, by-now}
 use Rattle.search.specs.declared.Progress.{Progress}
 use Rattle.watch.specs.State.{progress-of, state-of, said-of}
 use Rattle.watch.specs.LeftBy.{LeftBy}
 use Rattle.watch.specs.declared.State.{State}
 
 pub shows-kept : (s : Sheet) (p : Progress) (pairs : ℕ) (x : Search) → Shows s p x → Shows s (progress-of (state-of p pairs)) x
-shows-kept s p pairs x h = record { ordered = h .ordered; stands = go x (h .stands); last = h .last }
+shows-kept s p pairs x h = record { orderly = h .orderly; stands = go x (h .stands); last = h .last }
   where
     kept : (b : Bool) → not (eqb (cond b 1 0) 0) ≡ b
     kept true = refl

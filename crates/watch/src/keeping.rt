@@ -18,22 +18,21 @@ pub fn no_state() -> State
         limit: 0,
         last: 0,
         ended: 0,
-        order: [0; MOST_ORDERS],
+        train: [0; MOST_ORDERS],
         latest: [0; MOST_ORDERS],
     }
 }
 
-// The progress of a search, without the plan of the last round.
+// The progress of a search, without the times of the last round.
 pub fn resume(state: State) -> Progress
     ensures { λ r. ⌜ r ≡ progress-of state ⌝ }
 {
-    let order = state.order;
     let latest = state.latest;
+    let train = state.train;
     let no_time = [0; MOST_TRAINS];
     Progress {
-        order,
         latest,
-        train: [0; MOST_ORDERS],
+        train,
         departure: no_time,
         arrival: no_time,
         window: [0; MOST_TRAINS],
@@ -49,7 +48,7 @@ pub fn resume(state: State) -> Progress
 pub fn keep(progress: Progress, pairs: usize) -> State
     ensures { λ r. ⌜ r ≡ state-of progress pairs ⌝ }
 {
-    let order = progress.order;
+    let train = progress.train;
     let latest = progress.latest;
     State {
         pairs,
@@ -57,7 +56,7 @@ pub fn keep(progress: Progress, pairs: usize) -> State
         limit: progress.limit,
         last: progress.last,
         ended: progress.ended as u8,
-        order,
+        train,
         latest,
     }
 }

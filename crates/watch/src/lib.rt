@@ -11,7 +11,7 @@ use model::RoundReply;
 use model::limits::MOST_ORDERS;
 
 // Where a search stands between two calls, laid out as in C: how many pairs are recorded and how many rounds were made, the limit, the last arrival of the pair
-// recorded last, whether the search has ended (not 0), the orders by rank, and each order's latest train. Any numbers may stand in it.
+// recorded last, whether the search has ended (not 0), each order's train in the last round (0 for none), and its latest train. Any numbers may stand in it.
 #[repr(C)]
 pub struct State {
     pub pairs: usize,
@@ -19,7 +19,7 @@ pub struct State {
     pub limit: i64,
     pub last: u32,
     pub ended: u8,
-    pub order: [u8; MOST_ORDERS],
+    pub train: [u8; MOST_ORDERS],
     pub latest: [u8; MOST_ORDERS],
 }
 

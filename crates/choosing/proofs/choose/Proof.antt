@@ -9,6 +9,7 @@ use native.Mathlib.Omega.{arith}
 use lib.ListN.{length}
 use mir.Facts.{toZ-ofZ}
 use mir.Syntax.{w64}
+use Rattle.numbers.specs.DecidesLaws.{by-now, not-yet}
 use Rattle.model.specs.Memory.{sheetOf}
 use Rattle.model.specs.Sheet.{Sheet}
 use Rattle.model.specs.Admission.{Admitted}
@@ -18,7 +19,6 @@ use Rattle.rounds.specs.AreaLaws.{decides-plan-room}
 use Rattle.rounds.specs.Told.{areas}
 use Rattle.search.specs.Shows.{recorded-by}
 use Rattle.search.specs.declared.Progress.{Progress}
-use Rattle.search.specs.RunLaws.{not-yet, by-now}
 use Rattle.planner.specs.SoFar.{Running, recorded-now, Holds}
 use Rattle.planner.specs.ChoiceRoundLaws.{both, not-both, choice-begun, choice-taken, choice-kept, choice-ended}
 use Rattle.planner.specs.RunningLaws.{begun, more, can-go-on, next, next-better}
@@ -149,7 +149,7 @@ loop-again c =
     let l = head t .loop in
     let (is-better, timely) = both (result r .last) (start t .args .wish) (result r .better) (test .if2 .taken) in
     let is = next-better (sheet t) (progress t) (result r) is-better (goes r .1) in
-    let limit = toZ-ofZ {w = w64} {z = result r .limit} (record { sfits = c .struct-told .given .1 .1 .1 .1 .1 .1 .1 .0 .1 }) in (
+    let limit = toZ-ofZ {w = w64} {z = result r .limit} (record { sfits = c .struct-told .given .1 .1 .1 .1 .1 .1 .0 .1 }) in (
       goes r .0,
       rw limit
           (choice-taken (sheet t) (passes (granted (head t))) (start t .args .wish) (progress t) (result r) (l .choice) _ (found (start t)) (l .inv .1)

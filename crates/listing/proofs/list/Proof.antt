@@ -8,6 +8,7 @@ use native.Mathlib.Omega.{arith}
 use lib.ListN.{length}
 use mir.Facts.{toZ-ofZ}
 use mir.Syntax.{w64}
+use Rattle.numbers.specs.DecidesLaws.{by-now, not-yet}
 use Rattle.model.specs.Memory.{sheetOf}
 use Rattle.model.specs.Sheet.{Sheet}
 use Rattle.model.specs.Admission.{Admitted}
@@ -17,7 +18,6 @@ use Rattle.rounds.specs.AreaLaws.{decides-list-room}
 use Rattle.recording.specs.Recorded.{held-list, Lists}
 use Rattle.search.specs.Shows.{recorded-by}
 use Rattle.search.specs.declared.Progress.{Progress}
-use Rattle.search.specs.RunLaws.{not-yet, by-now}
 use Rattle.planner.specs.SoFar.{Running, recorded-now}
 use Rattle.planner.specs.RunningLaws.{begun, more, can-go-on, next, next-better, next-same, list-begun, list-better, list-same, list-ended}
 use Rattle.planner.specs.ListingLaws.{told-refused, told-rounds, listing-call}
@@ -118,7 +118,7 @@ loop-again c =
     let s = sheet (turn r) in
     let l = here (turn r) .loop in
     let is = next-better s (progress r) (r .round .result) (lists .before .before .before .if2 .taken) (goes r .1) in
-    let limit = toZ-ofZ {w = w64} {z = r .round .result .limit} (record { sfits = lists .before .struct-told .given .1 .1 .1 .1 .1 .1 .1 .0 .1 }) in
+    let limit = toZ-ofZ {w = w64} {z = r .round .result .limit} (record { sfits = lists .before .struct-told .given .1 .1 .1 .1 .1 .1 .0 .1 }) in
     let after = list-better s (progress r) (r .round .result) _ _ _ _ _ is (l .inv .1) (rw limit at (lists .list-pair .ensures .0)) in (
       goes r .0,
       after,

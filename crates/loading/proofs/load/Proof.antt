@@ -1,81 +1,178 @@
--- `loading::load` meets its contract: the loop's invariant is that the orders of rank n and above have their trains. Assumes nothing.
+-- `loading::load` meets its contract: the loop's invariant is that the trains above i are settled, and what is known of the others. Assumes nothing.
 use borrow.Author.Needs.{needs}
-use mathlib.Core.Path.{_≡_, _∙_}
+use mathlib.Core.Path.{_≡_, refl, sym, ap, _∙_}
+use mathlib.Core.Logic.{⊎-elim}
+use mathlib.Core.Bool.{false}
+use mathlib.Core.List.{List}
 use Prim.Native.Nat.{ℕ, _-_, _≤_, _<_}
 use native.Mathlib.Omega.{arith}
 use lib.ListN.{length, length-set}
 use Rattle.numbers.specs.Counting.{at, nth}
-use Rattle.loading.specs.Open.{SomeOpen}
+use Rattle.columns.specs.Columns.{UpTo}
 use Rattle.loading.specs.ToLoad.{ToLoad}
-use Rattle.loading.specs.SoFar.{LoadedTo}
-use Rattle.loading.specs.OnePassLaws.{none-loaded, all-loaded, is-order, may-ride, may-load, one-loaded}
+use Rattle.loading.specs.Standing.{standing, best, waited}
+use Rattle.loading.specs.Turns.{needed}
+use Rattle.loading.specs.Stage.{Counted, Stage, Known, Unmoved}
+use Rattle.loading.specs.StageLaws.{stage-done}
+use Rattle.loading.specs.SkipLaws.{waits-found, known-next, skip-settled}
+use Rattle.loading.specs.BeginLaws.{begins, known-first, stage-loads}
 use Rattle.loading.proofs.load.Statement.{statement}
 use Rattle.loading.proofs.load.Tie as tie
 
 abbrev Inv-loop : tie.InvT-loop
-Inv-loop all order capacity latest n left train =
-    (n ≤ all)
-    × (length train ≡ 200)
-    × (length left ≡ 32)
-    × ((q : ℕ) (release : ℕ → ℕ) → ToLoad all q release capacity order latest → LoadedTo all q release capacity latest n train left)
+Inv-loop n q release latest capacity train₀ riders₀ held low top₀ challenger₀ i₀ train riders top challenger i =
+    (i ≤ q) × Counted n train riders × Stage n (at release) (nth capacity) latest i train
+    × Known n (at release) (nth capacity) latest held low top challenger i train
 
 abbrev μ-loop : tie.MeasureT-loop
-μ-loop all order capacity latest n left train = n
+μ-loop n q release latest capacity train₀ riders₀ held low top₀ challenger₀ i₀ train riders top challenger i = i
 
--- the next order, its place, and its train
-module _ (c : tie.In-loop Inv-loop μ-loop) where
-  abbrev l : tie.At-loop Inv-loop μ-loop
-  l = c .before
+rides : {n q : ℕ} {release capacity latest train : List ℕ} → ToLoad n q release capacity latest train → UpTo 32 n train
+rides p j l = omega (arith, p .begins .up-to j l, p .few-trains)
 
-  abbrev j : ℕ
-  j = at (l .before .args .t3) (l .loop .n - 1)
+-- where everything is ready for the last train
+module _ (c : tie.After-greatest-outside Inv-loop μ-loop) where
+  abbrev left : tie.After-leave-late Inv-loop μ-loop
+  left = c .before .before .before .before
 
-  few : j < 200
-  few =
-      let (q, release, x) = l .before .pre in
-      omega (arith, is-order _ q release _ _ _ x _ (omega arith) (l .loop .inv .0) _ _ (l .loop .inv .3 q release x), x .few-orders)
+  abbrev lowest : tie.After-lowest Inv-loop μ-loop
+  lowest = left .before .before .before
 
-  low : at (l .loop .train) j ≤ 32
-  low =
-      let (q, release, x) = l .before .pre in
-      omega (arith, may-ride _ q release _ _ _ x _ (omega arith) (l .loop .inv .0) _ _ (l .loop .inv .3 q release x), x .few-trains)
+  abbrev first : tie.After-count-riders Inv-loop μ-loop
+  first = lowest .before .before
 
-  has-place : SomeOpen (nth (l .loop .left)) (at (l .loop .train) j)
-  has-place =
-      let (q, release, x) = l .before .pre in
-      may-load _ q release _ _ _ x (l .loop .n) (omega arith) (l .loop .inv .0) _ _ (l .loop .inv .3 q release x)
+  abbrev s : tie.Start Inv-loop μ-loop
+  s = first .before .before
+
+loop-holds : tie.Need-loop-holds Inv-loop μ-loop
+loop-holds c =
+    let p = s c .pre in
+    let a = s c .args in
+    let k = left c .leave-late .ensures .0 in (
+      omega arith,
+      left c .leave-late .ensures .1,
+      begins (a .n) (a .q) (at (a .release .now)) (nth (a .t4)) (a .latest .now) (a .t6) _ (p .begins) k (p .few-trains) (p .may-ride),
+      known-first (a .n) (a .q) (at (a .release .now)) (nth (a .t4)) (a .latest .now) (a .t6) _ (p .begins) k (p .few-trains) (p .may-ride)
+          (first c .count-riders .result) (lowest c .lowest .result) _ _ (first c .count-riders .ensures) (lowest c .lowest .ensures)
+          (waits-found (a .n) (at (a .release .now)) (a .latest .now) (left c .leave-late .last .1 .1 .0) _ _ (c .before .before .last-waited-for .ensures) (c .greatest-outside .ensures)),
+    )
+
+-- at train i
+module _ (l : tie.At-loop Inv-loop μ-loop) where
+  abbrev t : tie.Start Inv-loop μ-loop
+  t = s (l .before)
+
+  abbrev n : ℕ
+  n = t .args .n
+
+  abbrev release : ℕ → ℕ
+  release = at (t .args .release .now)
+
+  abbrev capacity : ℕ → ℕ
+  capacity = nth (t .args .t4)
+
+  abbrev latest : List ℕ
+  latest = t .args .latest .now
+
+  abbrev i : ℕ
+  i = l .loop .i
+
+  abbrev held : List ℕ
+  held = first (l .before) .count-riders .result
+
+  abbrev low : List ℕ
+  low = lowest (l .before) .lowest .result
+
+  low-train : i ≤ 32
+  low-train = omega (arith, l .loop .inv .0, t .pre .few-trains)
+
+  few-places : 1 ≤ i → capacity i ≤ 64
+  few-places pi = t .pre .capacities (i - 1) (omega (arith, l .loop .inv .0))
+
+  -- one train further down
+  Next : (train riders : List ℕ) (top challenger : ℕ) → Type 0
+  Next train riders top challenger =
+      Counted n train riders × Stage n release capacity latest (i - 1) train × Known n release capacity latest held low top challenger (i - 1) train
+
+  -- where it has had its turns
+  turned : 1 ≤ i → (train riders : List ℕ) (top challenger : ℕ) → Stage n release capacity latest (i - 1) train → Unmoved n i (l .loop .train) train
+      → Counted n train riders → top ≡ waited latest train n → challenger ≡ best release latest train 1 n → Next train riders top challenger
+  unfolding Next
+  turned pi train riders top challenger stage unmoved counts a b = (
+    counts,
+    stage,
+    known-next n release capacity latest held low (l .loop .top) (l .loop .challenger) i (l .loop .train) train top challenger unmoved (l .loop .inv .3)
+        (waits-found n release latest train top challenger a b) (i - 1) (omega arith),
+  )
+
+  -- where it needs none
+  passed : 1 ≤ i → needed (at (l .loop .riders) 0) (at (l .loop .riders) i) (capacity i) (at held i) (at low i) (l .loop .top) (l .loop .challenger) i ≡ false
+      → Next (l .loop .train) (l .loop .riders) (l .loop .top) (l .loop .challenger)
+  unfolding Next
+  passed pi idle =
+      let p = t .pre in
+      let (up, counts, stage, known) = l .loop .inv in (
+        counts,
+        stage-done n release capacity latest i pi (l .loop .train) stage
+            (skip-settled n release capacity latest held low (l .loop .top) (l .loop .challenger) (p .few-orders) i pi (omega (arith, p .few-trains)) (l .loop .train)
+            (l .loop .riders) counts stage known idle),
+        known-next n release capacity latest held low (l .loop .top) (l .loop .challenger) i (l .loop .train) (l .loop .train) (l .loop .top) (l .loop .challenger)
+            (λ j k h b. refl) known (known .waits) (i - 1) (omega arith),
+      )
+
+-- the way back to the train from its turns
+abbrev turn : tie.After-settle-train Inv-loop μ-loop → tie.At-loop Inv-loop μ-loop
+turn c = c .before .before .before .before .before .before .before
+
+next : (c : tie.Joined1 Inv-loop μ-loop) → Next (c .before .before .before) (c .if1 .train) (c .if1 .riders) (c .if1 .top) (c .if1 .challenger)
+next c =
+    let l = c .before .before .before in
+    let pi : 1 ≤ l .loop .i = omega arith in
+    ⊎-elim
+    (λ w. rw (w .9, w .10, w .11, w .12) (turned l pi _ _ _ _ (w .4 .ensures .0) (w .4 .ensures .1 .0) (w .4 .ensures .1 .1) (w .6 .ensures) (w .8 .ensures)))
+    (λ w. rw (w .1, w .2, w .3, w .4) (passed l pi (sym (c .before .needs-turn .ensures) ∙ w .0 .left)))
+    (c .if1 .came)
 
 loop-again : tie.Need-loop-again Inv-loop μ-loop
-loop-again c =
-    let t = c .before .before in
-    let left = l t .loop .left in
-    let train = l t .loop .train in
-    let on = c .open-train .ensures in
-    let train-long : j t < length train = omega (arith, few t, l t .loop .inv .1) in
-    let left-long : c .open-train .result - 1 < length left = omega (arith, on .first, on .up-to, low t, l t .loop .inv .2) in (
-      omega arith,
-      length-set train (j t) (c .open-train .result) ∙ l t .loop .inv .1,
-      length-set left (c .open-train .result - 1) _ ∙ l t .loop .inv .2,
-      λ q release x. one-loaded _ q release _ _ _ x (l t .loop .n) (omega arith) (l t .loop .inv .0) train left (l t .loop .inv .3 q release x) _ on
-          train-long left-long,
+unfolding Next
+loop-again c = let (counts, stage, known) = next c in (omega arith, counts, stage, known)
+
+settle-train-requires : tie.Need-settle-train-requires Inv-loop μ-loop
+settle-train-requires c κs =
+    let l = c .before .before .before .before .before .before in
+    let p = t l .pre in
+    let (up, counts, stage, known) = l .loop .inv in (
+      (
+        record { few = p .few-orders; releases = p .releases; up-to = stage .above .upto; counts = counts },
+        omega arith,
+        omega (arith, p .few-trains),
+        p .capacities _ (omega arith),
+      ),
+      stage,
     )
 
 returns : tie.Need-returns Inv-loop μ-loop
-returns c q release x =
+returns c =
     let l = c .before in
-    all-loaded _ q release _ _ _ x (l .loop .n) (l .loop .train) (l .loop .left) (omega arith) (omega (arith, l .loop .inv .1, x .few-orders))
-    (l .loop .inv .3 q release x)
-
--- the train found
-place : (c : tie.After-open-train Inv-loop μ-loop) → (1 ≤ c .open-train .result) × (c .open-train .result ≤ 32)
-place c = let on = c .open-train .ensures in (on .first, omega (arith, on .up-to, low (c .before .before)))
+    let p = s (l .before) .pre in
+    let a = s (l .before) .args in
+    let e : l .loop .i ≡ 0 = omega arith in
+    stage-loads (a .n) (a .q) (at (a .release .now)) (a .t4) (a .latest .now) (l .loop .train) (omega (arith, l .loop .inv .1 .places, p .few-orders)) (p .few-trains)
+    (p .may-ride) (rw e at (l .loop .inv .2))
 
 pub load-spec : {M : Type 1} → statement M
 load-spec =
     tie.close
     (tie.spec
-    Inv-loop μ-loop (λ c. (omega arith, search needs, search needs, λ q release x. none-loaded _ q release _ _ _ x)) (λ c. search needs)
-    (λ c. let (q, release, x) = c .before .before .pre in omega (arith, x .few-orders)) (λ c. omega (arith, few c)) (λ c. few (c .before))
-    (λ c κs. (low (c .before), has-place (c .before))) (λ c. place c .0) (λ c. omega (arith, place c)) (λ c. omega (arith, place c))
-    (λ c. omega (arith, place c)) (λ c. c .open-train .ensures .place) (λ c. omega (arith, place c)) (λ c. few (c .before .before)) (λ c. omega arith)
-    loop-again returns)
+    Inv-loop μ-loop
+    (λ c κs. let p = c .before .pre in (p .few-orders, search needs, rides p))
+    (λ c κs. let p = c .before .before .before .pre in (p .few-orders, p .releases, rides p))
+    (λ c κs. let p = c .before .before .before .before .before .before .pre in (p .few-orders, rides p, c .before .before .before .before .count-riders .ensures))
+    (λ c κs. c .before .before .before .before .before .before .before .before .pre .few-orders)
+    (λ c κs. let p = c .before .before .before .before .before .before .before .before .before .before .pre in (p .few-orders, p .releases))
+    loop-holds (λ c. search needs) (λ c. omega (arith, low-train (c .before))) (λ c. omega (arith, low-train (c .before)))
+    (λ c. omega (arith, few-places (c .before) (omega arith))) (λ c. search needs) (λ c. omega (arith, low-train (c .before)))
+    (λ c. omega (arith, low-train (c .before))) (λ c. omega (arith, low-train (c .before))) (λ c. omega (arith, low-train (c .before)))
+    (λ c. omega (arith, low-train (c .before))) (λ c κs. search needs) (λ c. omega (arith, low-train (c .before .before .before))) settle-train-requires
+    (λ c κs. t (turn (c .before)) .pre .few-orders) (λ c κs. let p = t (turn (c .before .before .before)) .pre in (p .few-orders, p .releases))
+    (λ c. search needs) (λ c. search needs) loop-again returns)

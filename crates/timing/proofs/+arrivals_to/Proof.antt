@@ -14,7 +14,7 @@ use Rattle.timing.proofs.arrivals_to.Reads as arrivals-to
 use Rattle.timing.proofs.arrivals_to.Kinds as arrivals-to-kinds
 use Rattle.timing.proofs.+arrivals_to.Lts-arrivals_to as lts
 use Rattle.columns.proofs.of_train.Reads as of-train-reads
-use Rattle.timing.proofs.later.Reads as later-reads
+use Rattle.columns.proofs.larger.Reads as larger-reads
 use Rattle.timing.proofs.+arrivals_to.{statement}
 use Rattle.timing.proofs.+arrivals_to.Tie.{close}
 
@@ -28,7 +28,7 @@ abbrev ahead : ℕ → In 2 arrivals-to-kinds.ps
 ahead t = and 2 arrivals-to-kinds.ps (falls 2 arrivals-to-kinds.ps _<_ μ-arrivals-to t) arrivals-to.Pre
 
 abbrev claims : ℕ → lts.Claims
-claims t = (of-train-reads.Asked, of-train-reads.Learnt, ahead t, arrivals-to.Post, later-reads.Asked, later-reads.Learnt)
+claims t = (of-train-reads.Asked, of-train-reads.Learnt, ahead t, arrivals-to.Post, larger-reads.Asked, larger-reads.Learnt)
 
 own-is : (t : ℕ) (c : lts.After-of-train2 (claims t) (here t) arrivals-to.Post)
     → let a = c .before .before .args in
@@ -42,8 +42,8 @@ add-own t c =
     let p = s .pre .1 in
     omega (arith, own-is t c, p .1 .0 m (omega (arith, p .0 .0)), p .1 .1 m (omega (arith, p .0 .0)))
 
-add-later : (t : ℕ) → lts.Need-add-later (claims t) (here t) arrivals-to.Post
-add-later t c =
+add-larger : (t : ℕ) → lts.Need-add-larger (claims t) (here t) arrivals-to.Post
+add-larger t c =
     let s = c .before .before .before .before in
     let a = s .args in
     let p = s .pre .1 in
@@ -68,7 +68,7 @@ returns-2 t c =
     let p = s .pre .1 in
     let l = got .arrivals-to in
     arrivals-more (a .gap) (a .running .now) (a .departure .now) (l .result) (a .i) _ (λ z. omega (arith, p .0 .0)) (omega (arith, p .0 .1)) (l .ensures)
-    (c .later .ensures
+    (c .larger .ensures
     ∙ arrives-behind (a .gap) (a .running .now) (a .departure .now) (l .result) (a .i) _ (omega (arith, got .before .if1 .left, p .0 .0)) (own-is t own)
     (l .ensures))
 
@@ -95,7 +95,7 @@ pub +arrivals-to-spec : {M : Type 1} → statement M
     (λ c. omega (arith, c .before .if1 .left, c .before .before .before .before .pre .1 .0 .0))
     (λ c. omega (arith, c .before .before .before .before .pre .1 .0 .1))
     (λ c. omega (arith, c .before .before .before .before .pre .1 .0 .1))
-    (add-later t)
+    (add-larger t)
     (λ c κs. search needs)
     (λ c. omega (arith, c .before .before .before .before .before .pre .1 .0 .1))
     (λ c. omega (arith, c .before .before .before .before .before .pre .1 .0 .1))

@@ -68,8 +68,8 @@ loop-again c =
     let l = head d in
     let a = entry l .args in
     let inv = l .loop .inv in
-    let e = c .before .later .ensures in
-    let same : max (c .before .later .result) (at (a .t2) (l .loop .i)) ≡ max (l .loop .t) (at (a .t2) (l .loop .i)) = omega (arith, e) in (
+    let e = c .before .larger .ensures in
+    let same : max (c .before .larger .result) (at (a .t2) (l .loop .i)) ≡ max (l .loop .t) (at (a .t2) (l .loop .i)) = omega (arith, e) in (
       (inv .0 .0, omega (arith, more d .1), inv .0 .2),
       inv .1,
       inv .2,
@@ -78,14 +78,14 @@ loop-again c =
     )
 
 -- the train left at this instant
-left : (c : tie.After-later2 Inv-loop μ-loop) → c .later2 .result ≤ 100000
+left : (c : tie.After-larger2 Inv-loop μ-loop) → c .larger2 .result ≤ 100000
 left c =
     let d = c .before .before .before in
     let s = entry (head d) in
     let m = head d .loop .m in
     let w = s .args .sheet in
     let range = in-range s .windows (suc m) (omega arith) (omega (arith, more d .1)) in
-    omega (arith, c .later2 .ensures, c .before .if2 .left, range .from .1, range .to .1, nth-at (w .«window_from») m, nth-at (w .«window_to») m)
+    omega (arith, c .larger2 .ensures, c .before .if2 .left, range .from .1, range .to .1, nth-at (w .«window_from») m, nth-at (w .«window_to») m)
 
 loop-again-2 : tie.Need-loop-again-2 Inv-loop μ-loop
 loop-again-2 c =
@@ -97,10 +97,10 @@ loop-again-2 c =
     let inv = l .loop .inv in
     let i = l .loop .i in
     let m = l .loop .m in
-    let t = at-window .later in
-    let v = c .before .later2 .result in
+    let t = at-window .larger in
+    let v = c .before .larger2 .result in
     let few = train-place d in
-    let e : v ≡ max (t .result) (nth (w .«window_from») (m + 1)) = rw (add-one m) (omega (arith, c .before .later2 .ensures, nth-at (w .«window_from») m)) in
+    let e : v ≡ max (t .result) (nth (w .«window_from») (m + 1)) = rw (add-one m) (omega (arith, c .before .larger2 .ensures, nth-at (w .«window_from») m)) in
     let window : m + 1 ≡ first-window (nth (w .«window_to»)) (t .result) (w .«window_count») =
     add-one m ∙ window-first (w .«window_to») (t .result) (w .«window_count») m (more d .1) (λ k h. omega (arith, t .ensures, inv .4 k h))
     (omega (arith, c .before .before .if2 .left)) in
@@ -110,7 +110,7 @@ loop-again-2 c =
       left-more (l .loop .departure) i v few (left (c .before)) (inv .1),
       rw e next,
       earliest-behind (w .gap) (l .loop .departure) i v _ (omega (arith, inv .1 .0, few)),
-      λ k h. omega (arith, inv .4 k h, t .ensures, c .before .later2 .ensures),
+      λ k h. omega (arith, inv .4 k h, t .ensures, c .before .larger2 .ensures),
     )
 
 -- what is found by then

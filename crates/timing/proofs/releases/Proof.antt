@@ -33,7 +33,7 @@ loop-again c =
     let (some, few) = on l (omega arith) in
     let here : at (take (a .n) (a .t3)) (l .loop .j) ≡ t = getD-take (a .n) (a .t3) (l .loop .j) 0 (omega arith) in (
       omega arith,
-      ap (set (l .loop .released) (t - 1)) (c .later .ensures)
+      ap (set (l .loop .released) (t - 1)) (c .larger .ensures)
           ∙ releases-more (at (a .t2)) (take (a .n) (a .t3)) 32 (l .loop .j) t (l .loop .released) (l .loop .inv .1) here some few,
     )
 

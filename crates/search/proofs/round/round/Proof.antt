@@ -3,7 +3,7 @@ use mathlib.Core.Path.{_≡_, refl, sym, ap, _∙_, subst}
 use mathlib.Core.Logic.{⊎-elim}
 use mathlib.Core.Bool.{Bool, cond}
 use mathlib.Core.List.{List}
-use Prim.Native.Nat.{ℕ, _-_, _≤_, _<_}
+use Prim.Native.Nat.{ℕ, _+_, _-_, _≤_, _<_}
 use native.Mathlib.Omega.{arith}
 use lib.ListN.{take}
 use lib.Seq.{getD-take}
@@ -26,7 +26,7 @@ use Rattle.timing.specs.Timed.{timed-in}
 use Rattle.timing.specs.declared.Times.{Times}
 use Rattle.lowering.specs.RangedLaws.{in-ranges, arrives}
 use Rattle.lowering.specs.LoweringStepLaws.{worst-taken, lower-taken}
-use Rattle.search.specs.Parts.{Begun, Counted, Graded}
+use Rattle.search.specs.Parts.{Begun, Graded}
 use Rattle.search.specs.PartsLaws.{loads, few-rounds, made-in-time, arrives-to}
 use Rattle.search.specs.RoundLaws.{round-stopped, round-made}
 use Rattle.search.specs.declared.Progress.{Progress}
@@ -34,8 +34,8 @@ use Rattle.search.proofs.round.round.Statement.{statement}
 use Rattle.search.proofs.round.round.Tie as tie
 
 -- ways back: to the entry from the columns, to the timing from the plan, and to the plan from where it is graded
-abbrev entry : tie.After-latest → tie.Start
-entry c = c .before .before .before
+abbrev entry : tie.After-latest2 → tie.Start
+entry c = c .before .before .before .before .before .before
 
 abbrev timing : tie.After-window → tie.After-time-trains
 timing c = c .before .before .before .before .before .before .before
@@ -57,15 +57,16 @@ module _ (s : tie.Start) where
   rides-all : Loaded sheet (loading sheet (take (sheet .orders) (progress .latest)))
   rides-all = loads sheet (s .pre .0) progress begins
 
-  to-load : ToLoad (sheet .orders) (sheet .trains) (sheet .release) (s .args .sheet .capacity) (progress .order) (progress .latest)
+  to-load : ToLoad (sheet .orders) (sheet .trains) (s .args .sheet .release) (s .args .sheet .capacity) (progress .latest) (progress .train)
   to-load =
       let a = s .pre .0 in
       record {
         few-orders = a .few .orders;
         few-trains = a .few .trains;
-        ordered = begins .ordered;
-        up-to = begins .latest;
-        loaded = λ j l. rides-all j l .0;
+        releases = λ j l. a .in-range .orders j l .release .1;
+        capacities = few-places (s .args .sheet) a;
+        may-ride = begins .latest;
+        begins = begins .orderly;
       }
 
 -- where the trains are loaded
@@ -78,7 +79,7 @@ module _ (c : tie.After-load) where
 
   -- the first orders' trains are document 01's loading
   loaded : take (sheet start .orders) train ≡ loading (sheet start) (take (sheet start .orders) (progress start .latest))
-  loaded = c .load .ensures (sheet start .trains) (sheet start .release) (to-load start)
+  loaded = c .load .ensures
 
   rides : Loaded (sheet start) (take (sheet start .orders) train)
   rides = subst (Loaded (sheet start)) (sym loaded) (rides-all start)
@@ -147,7 +148,7 @@ module _ (c : tie.After-struct-told) where
       (at-start .pre .0 .complete .orders) (rides (load (made c)))
 
   limit-is : toZ w64 (ofZ w64 (progress at-start .limit)) ≡ progress at-start .limit
-  limit-is = toZ-ofZ {w = w64} (record { sfits = c .struct-told .given .1 .1 .1 .1 .1 .1 .1 .0 .1 })
+  limit-is = toZ-ofZ {w = w64} (record { sfits = c .struct-told .given .1 .1 .1 .1 .1 .1 .0 .1 })
 
   last-is : c .before .before .last-of .result ≡ its-last (made c)
   last-is =
@@ -156,14 +157,14 @@ module _ (c : tie.After-struct-told) where
 
   -- what step 3 leaves
   abbrev Left : Progress → Type 0
-  Left r = Counted (progress at-start) r × Graded (progress at-start) r (its-worst (made c)) (its-last (made c))
+  Left r = (r .rounds ≡ progress at-start .rounds + 1) × Graded (progress at-start) r (its-worst (made c)) (its-last (made c))
 
 grades : (c : tie.Joined2) → Left (c .before) (c .if2 .progress)
 grades c =
     let t = c .before in
     ⊎-elim
-    (λ w. rw (w .1) ((refl, refl), (sym (rw (worst-is t, limit-is t) at (w .0 .taken)), worst-is t, last-is t)))
-    (λ w. rw (w .1) ((refl, refl), (sym (rw (worst-is t, limit-is t) at (w .0 .left)), refl, refl)))
+    (λ w. rw (w .1) (refl, (sym (rw (worst-is t, limit-is t) at (w .0 .taken)), worst-is t, last-is t)))
+    (λ w. rw (w .1) (refl, (sym (rw (worst-is t, limit-is t) at (w .0 .left)), refl, refl)))
     (c .if2 .came)
 
 returns : tie.Need-returns
@@ -176,23 +177,23 @@ returns c =
     let p = progress s in
     let (counted, graded) = grades j in
     let y = j .if2 .progress .limit in
-    let limit = toZ-ofZ {w = w64} {z = y} (record { sfits = lower .before .struct-told2 .given .1 .1 .1 .1 .1 .1 .1 .0 .1 }) in
+    let limit = toZ-ofZ {w = w64} {z = y} (record { sfits = lower .before .struct-told2 .given .1 .1 .1 .1 .1 .1 .0 .1 }) in
     let latest = take (m .orders) (p .latest) in
     let low : (k : ℕ) → k < m .orders → at latest k ≤ m .trains = λ k l. omega (arith, getD-take (m .orders) (p .latest) k 0 l, begins s .latest k l) in
     let lowered = rw limit at (lower .lower .ensures) ∙ lower-taken (m .weight) (m .due) (its plan .arrival) y latest (m .trains) (m .orders) low in
-    (round-made m p _ (s .pre .1 .0) counted (loaded (load plan)) (runs plan) graded (lowered, c .is-crowded .ensures), counted .1)
+    (round-made m p _ (s .pre .1 .0) counted (begins s .latest) (loaded (load plan)) (runs plan) graded (lowered, c .is-crowded .ensures), counted)
 
 returns-2 : tie.Need-returns-2
 returns-2 c =
     let time = c .before .before in
     let s = start (time .before) in
-    (round-stopped (sheet s) (progress s) _ (s .pre .1 .0) (refl, refl) (rw (c .if1 .left) at (timings time)) refl refl refl, refl)
+    (round-stopped (sheet s) (progress s) _ (s .pre .1 .0) refl (begins s .orderly) (rw (c .if1 .left) at (timings time)) refl refl refl, refl)
 
 pub round-spec : {M : Type 1} → statement M
 round-spec =
     tie.close
     (tie.spec
-    (λ c κs. let s = entry c in (sheet s .trains, sheet s .release, to-load s))
+    (λ c κs. to-load (entry c))
     (λ c κs. let s = start c in (s .pre .0, loaded-column (sheet s) (train c) (rides c)))
     (λ c. let s = start (c .before .before) in omega (arith, few-rounds (sheet s) (s .pre .0) (progress s) (begins s)))
     worst-of-requires

@@ -16,7 +16,7 @@ byte-of false = refl
 returns : tie.Need-returns
 returns c =
     let p = c .before .before .before .before .args .progress in
-    let limit = toZ-ofZ {w = w64} {z = p .limit} (record { sfits = c .struct-told .given .1 .1 .1 .1 .1 .1 .1 .0 .1 }) in
+    let limit = toZ-ofZ {w = w64} {z = p .limit} (record { sfits = c .struct-told .given .1 .1 .1 .1 .1 .1 .0 .1 }) in
     rw (limit, byte-of (p .ended)) refl
 
 pub keep-spec : {M : Type 1} → statement M

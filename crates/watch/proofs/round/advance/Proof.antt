@@ -8,14 +8,13 @@ use lib.Dec.{eqb}
 use lib.ListN.{length}
 use mir.Facts.{toZ-ofZ}
 use mir.Syntax.{w64}
-use Rattle.numbers.specs.DecidesLaws.{test-means}
+use Rattle.numbers.specs.DecidesLaws.{test-means, by-now, not-yet}
 use Rattle.model.specs.Memory.{sheetOf}
 use Rattle.model.specs.Sheet.{Sheet}
 use Rattle.rounds.specs.BoundLaws.{bound-most}
 use Rattle.rounds.specs.ByRound.{SearchAreas, all-areas, SearchRoom}
 use Rattle.rounds.specs.ByRoundLaws.{decides-search-room}
 use Rattle.search.specs.Shows.{Makes}
-use Rattle.search.specs.RunLaws.{not-yet, by-now}
 use Rattle.search.specs.declared.Progress.{Progress}
 use Rattle.watch.specs.State.{progress-of}
 use Rattle.watch.specs.Fit.{Fits}
@@ -105,7 +104,7 @@ returns-2 c =
     let pairs = listed trains in
     let r = made pairs in
     let s = entry r in
-    let limit = toZ-ofZ {w = w64} {z = result r .limit} (record { sfits = pairs .before .struct-told .given .1 .1 .1 .1 .1 .1 .1 .0 .1 }) in
+    let limit = toZ-ofZ {w = w64} {z = result r .limit} (record { sfits = pairs .before .struct-told .given .1 .1 .1 .1 .1 .1 .0 .1 }) in
     let few = fits s .begun (s .pre .1) .within in
     rw (c .keep2 .ensures)
     (record {

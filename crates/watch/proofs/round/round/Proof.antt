@@ -1,9 +1,8 @@
 -- `watch::round::round` meets its contract: the state does not fit, or it is at the end, or a round is made. Assumes nothing.
 use borrow.Author.Needs.{needs}
-use Rattle.numbers.specs.DecidesLaws.{test-means, test-fails}
+use Rattle.numbers.specs.DecidesLaws.{test-means, test-fails, by-now, not-yet}
 use Rattle.model.specs.Memory.{sheetOf}
 use Rattle.rounds.specs.ByRound.{SearchAreas, all-areas}
-use Rattle.search.specs.RunLaws.{not-yet, by-now}
 use Rattle.watch.specs.RoundCallLaws.{FitsHere, round-none, round-ended, round-made}
 use Rattle.watch.proofs.round.round.Statement.{statement}
 use Rattle.watch.proofs.round.round.Tie as tie

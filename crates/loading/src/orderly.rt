@@ -1,0 +1,130 @@
+// Whether trains that come from outside are such as a loading may begin from.
+use crate::moving::TRAINS_AND_NONE;
+use crate::moving::count_riders;
+use crate::standing::lowest;
+use crate::standing::one_of;
+use crate::standing::standing_of;
+use model::limits::MOST_ORDERS;
+use model::limits::MOST_TRAINS;
+ghost use mathlib.Core.Path.{_≡_};
+ghost use Prim.Native.Nat.{_≤_};
+ghost use lib.ListN.{length};
+ghost use Rattle.numbers.specs.Counting.{at, nth};
+ghost use Rattle.numbers.specs.DecidesLaws.{Decides};
+ghost use Rattle.model.specs.Limits.{order-counts, train-counts, last-instant};
+ghost use Rattle.columns.specs.Columns.{UpTo};
+ghost use Rattle.loading.specs.Standing.{Lowest};
+ghost use Rattle.loading.specs.Stage.{Counted};
+ghost use Rattle.loading.specs.Orderly.{Orderly};
+ghost use Rattle.loading.specs.Bars.{Room, Barred, Under, AllUnder};
+
+// Whether none of the first n trains of a column is above q.
+pub fn none_above(n: usize, column: &[u8; MOST_ORDERS], q: usize) -> bool
+    requires { ⌜ (n ≤ order-counts .most) × (q ≤ train-counts .most) ⌝ }
+    ensures { λ r. ⌜ Decides (UpTo q n (now (column .entry))) r ⌝ }
+{
+    let most = q as u8;
+    let mut kept = true;
+    let mut j: usize = 0;
+    while j < n {
+        kept = (column[j] <= most) & kept;
+        j += 1;
+    }
+    kept
+}
+
+// Whether none of q trains has more orders than places.
+fn have_room(q: usize, capacity: &[u32; MOST_TRAINS], riders: [u8; TRAINS_AND_NONE]) -> bool
+    requires { ⌜ q ≤ train-counts .most ⌝ }
+    ensures { λ r. ⌜ Decides (Room q (nth (now (capacity .entry))) riders) r ⌝ }
+{
+    let mut kept = true;
+    let mut i: usize = 0;
+    while i < q {
+        kept = ((riders[i + 1] as u32) <= capacity[i]) & kept;
+        i += 1;
+    }
+    kept
+}
+
+// Each train's bar, which whoever may ride it and rides an earlier one must stand below: the least standing on it, or 0 where it is not full.
+fn find_bars(
+    mut q: usize,
+    capacity: &[u32; MOST_TRAINS],
+    riders: [u8; TRAINS_AND_NONE],
+    low: &[u32; TRAINS_AND_NONE],
+) -> [u32; TRAINS_AND_NONE]
+    requires { ⌜ q ≤ train-counts .most ⌝ }
+    ensures { λ r. ⌜ Barred q (nth (now (capacity .entry))) riders (now (low .entry)) r ⌝ }
+{
+    let mut bars = [0u32; TRAINS_AND_NONE];
+    while q > 0 {
+        let full = (riders[q] as u32) == capacity[q - 1];
+        bars[q] = one_of(full, low[q], 0);
+        q -= 1;
+    }
+    bars
+}
+
+// Whether a standing is below the bars of all trains behind `from`, up to `to`.
+fn is_under(own: u32, from: u8, to: u8, bars: &[u32; TRAINS_AND_NONE]) -> bool
+    requires { ⌜ to ≤ train-counts .most ⌝ }
+    ensures { λ r. ⌜ Decides (Under own from to (now (bars .entry))) r ⌝ }
+{
+    let mut i = from;
+    while i < to {
+        i += 1;
+        if bars[i as usize] <= own {
+            return false;
+        }
+    }
+    true
+}
+
+// Whether each of n orders that has a train stands below the bars of all later trains that it may ride.
+fn all_under(
+    n: usize,
+    release: &[u32; MOST_ORDERS],
+    latest: &[u8; MOST_ORDERS],
+    train: &[u8; MOST_ORDERS],
+    bars: &[u32; TRAINS_AND_NONE],
+) -> bool
+    requires { ⌜ (n ≤ order-counts .most) × UpTo last-instant n (now release) × UpTo (train-counts .most) n (now latest) ⌝ }
+    ensures { λ r. ⌜ Decides (AllUnder n (at (now (release .entry))) (now (latest .entry)) (now (train .entry)) (now (bars .entry))) r ⌝ }
+{
+    let mut j: usize = 0;
+    while j < n {
+        let own = standing_of(release, j);
+        let under = (train[j] == 0) | is_under(own, train[j], latest[j], bars);
+        if !under {
+            return false;
+        }
+        j += 1;
+    }
+    true
+}
+
+// Whether the trains of n orders are orderly.
+pub fn are_orderly(
+    n: usize,
+    q: usize,
+    release: &[u32; MOST_ORDERS],
+    capacity: &[u32; MOST_TRAINS],
+    latest: &[u8; MOST_ORDERS],
+    train: &[u8; MOST_ORDERS],
+) -> bool
+    requires { ⌜ (n ≤ order-counts .most) × (q ≤ train-counts .most) × UpTo last-instant n (now release) ⌝ }
+    requires { ⌜ UpTo q n (now latest) × (length (now train) ≡ order-counts .most) ⌝ }
+    ensures { λ r. ⌜ Decides (Orderly n q (at (now (release .entry))) (nth (now (capacity .entry))) (now (latest .entry)) (now (train .entry))) r ⌝ }
+{
+    if !none_above(n, train, q) {
+        return false;
+    }
+    let riders = count_riders(n, train);
+    if !have_room(q, capacity, riders) {
+        return false;
+    }
+    let low = lowest(n, release, train);
+    let bars = find_bars(q, capacity, riders, &low);
+    all_under(n, release, latest, train, &bars)
+}
