@@ -31,6 +31,10 @@ waits-found n release latest train top challenger a b j l e p = (
   rw b (greatest-above (decides-could latest train 1) (standing release) n j l (omega arith, p)),
 )
 
+pub nobody-waits : (n : ℕ) (release : ℕ → ℕ) (latest train riders : List ℕ) → Counted n train riders → at riders 0 ≡ 0 → {top challenger : ℕ}
+    → (j : ℕ) → j < n → at train j ≡ 0 → 1 ≤ at latest j → (at latest j ≤ top) × (standing release j ≤ challenger)
+nobody-waits n release latest train riders c none j l e p = absurd (omega (arith, rw e at (rides-one n train riders c j l (omega arith))))
+
 module _ (n : ℕ) (release capacity : ℕ → ℕ) (latest held low : List ℕ) (top challenger : ℕ) where
   -- what is known stays known, one train further down
   pub known-next : (i : ℕ) (before after : List ℕ) (t c : ℕ) → Unmoved n i before after → Known n release capacity latest held low top challenger i before

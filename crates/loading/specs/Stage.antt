@@ -35,6 +35,10 @@ pub record Stage (n : ℕ) (release capacity : ℕ → ℕ) (latest : List ℕ) 
 abbrev pub Unmoved : (n i : ℕ) (before after : List ℕ) → Type 0
 Unmoved n i before after = (j : ℕ) → j < n → 1 ≤ at after j → at after j < i → at after j ≡ at before j
 
+-- who has no train may ride none above `top`
+abbrev pub Waiting : (n : ℕ) (latest : List ℕ) (top : ℕ) (train : List ℕ) → Type 0
+Waiting n latest top train = (j : ℕ) → j < n → at train j ≡ 0 → 1 ≤ at latest j → at latest j ≤ top
+
 -- What is known of the trains up to i, by which most are passed over: `low` is a bound below the standings on each; `held` says how many each held at first, and
 -- who has a train could come only to one that was full; who has none may ride no train above `top`, and stands no higher than `challenger`.
 pub record Known (n : ℕ) (release capacity : ℕ → ℕ) (latest held low : List ℕ) (top challenger i : ℕ) (train : List ℕ) : Type 0 where

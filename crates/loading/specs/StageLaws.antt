@@ -1,14 +1,14 @@
 -- ONE TURN OF A TRAIN, and when it has settled. Assumes nothing.
 use mathlib.Core.Path.{_≡_, refl, sym, ap, _∙_, subst}
 use mathlib.Core.Logic.{_⊎_, inl, inr}
-use mathlib.Core.Bool.{_||_, false}
+use mathlib.Core.Bool.{_&&_, _||_}
 use mathlib.Core.List.{List}
 use Prim.Native.Nat.{ℕ, suc, _-_, _%_, _≤_, _<_}
 use native.Mathlib.Omega.{arith}
-use lib.Dec.{ltb}
+use lib.Dec.{ltb, leb}
 use lib.ListN.{length, set}
 use Rattle.numbers.specs.Counting.{at, count}
-use Rattle.numbers.specs.DecidesLaws.{decides-lt, decides-eq, decides-or, decided, test-fails}
+use Rattle.numbers.specs.DecidesLaws.{Decides, decides-le, decides-lt, decides-eq, decides-and, decides-or, decided}
 use Rattle.numbers.specs.CountingLaws.{count-mono}
 use Rattle.rounds.specs.LoadingLaws.{Below, on, decides-on}
 use Rattle.rounds.specs.Settled.{Could, Settled-at, Settled-above}
@@ -18,12 +18,23 @@ use Rattle.loading.specs.StandingLaws.{standing-below, decides-could, gr
 use Rattle.loading.specs.Stage.{Stage, Unmoved}
 use Rattle.loading.specs.CountedLaws.{AtSet, here, elsewhere, at-set, one-more}
 
--- neither short nor waited for
-pub neither : (riders places waiting : ℕ) → (ltb riders places || ltb 0 waiting) ≡ false → (places ≤ riders) × (waiting ≡ 0)
-neither riders places waiting e =
-    let no = test-fails (decides-or (decides-lt riders places) (decides-lt 0 waiting)) e in
-    let long : ¬ (riders < places) = λ h. no (inl h) in
-    let alone : ¬ (0 < waiting) = λ h. no (inr h) in (omega arith, omega arith)
+-- the test for a further turn: the train is short, or one without a train may ride it
+abbrev pub Wanted : (riders places waiting i top : ℕ) → Type 0
+Wanted riders places waiting i top = (riders < places) ⊎ ((0 < waiting) × (i ≤ top))
+
+pub decides-wanted : (riders places waiting i top : ℕ) → Decides (Wanted riders places waiting i top) (ltb riders places || (ltb 0 waiting && leb i top))
+decides-wanted riders places waiting i top = decides-or (decides-lt riders places) (decides-and (decides-lt 0 waiting) (decides-le i top))
+
+-- a train that is full is wanted by one who may ride it
+pub wanted-full : (riders places waiting i top : ℕ) → Wanted riders places waiting i top → places ≤ riders → i ≤ top
+wanted-full riders places waiting i top (inl short) full = absurd (omega arith)
+wanted-full riders places waiting i top (inr (some, may)) full = may
+
+-- and one that is not wanted is full, and nobody without a train may ride it
+pub not-wanted : (riders places waiting i top : ℕ) → ¬ Wanted riders places waiting i top → (places ≤ riders) × ((0 < waiting) → top < i)
+not-wanted riders places waiting i top f =
+    let long : ¬ (riders < places) = λ h. f (inl h) in
+    (omega arith, λ some. let high : ¬ (i ≤ top) = λ h. f (inr (some, h)) in omega arith)
 
 -- one move after another
 pub unmoved-then : (n i : ℕ) (first next last : List ℕ) → Unmoved n i first next → Unmoved n i next last → Unmoved n i first last
@@ -77,15 +88,19 @@ module _ (n : ℕ) (release capacity : ℕ → ℕ) (latest : List ℕ) where
           full = λ y ly c. full;
         }
 
-    -- it is full, and nobody is without a train
-    pub rests-idle : count (on train i) n ≡ capacity i → ((j : ℕ) → j < n → ¬ (at train j ≡ 0))
+    -- it is full, and nobody without a train could come
+    pub rests-idle : count (on train i) n ≡ capacity i → ((j : ℕ) → j < n → at train j ≡ 0 → at latest j < i)
         → Settled-at n release (capacity i) latest train i
     rests-idle full none =
         record {
           room = s .room i pi qi;
-          beaten = λ x y lx ly e c. let some = none y ly in s .beaten x y lx ly (omega arith) (omega arith) (rw e c);
+          beaten = λ x y lx ly e c. s .beaten x y lx ly (omega arith) (loaded y ly c (decided (decides-eq (at train y) 0))) (rw e c);
           full = λ y ly c. full;
         }
+      where
+        loaded : (y : ℕ) → y < n → Could latest train i y → (at train y ≡ 0) ⊎ (¬ (at train y ≡ 0)) → 1 ≤ at train y
+        loaded y ly c (inl u) = absurd (omega (arith, none y ly u, c .1))
+        loaded y ly c (inr u) = omega arith
 
     -- ---- an order leaves
 

@@ -187,6 +187,8 @@ module _ (n : ℕ) (release : ℕ → ℕ) (latest : List ℕ) (few : n ≤ 200)
   pub record Moved (after : List ℕ) : Type 0 where
     pub stage : Stage n release capacity latest i after
     pub unmoved : Unmoved n i train after
+    -- whoever has no train had none, or the train was full
+    pub without : (j : ℕ) → j < n → at after j ≡ 0 → (at train j ≡ 0) ⊎ (k ≤ count (on train i) n)
     pub fell : best release latest after i n < best release latest train i n
 
   pub turn-moves : (after : List ℕ) (r : Bool) → Turn n release latest i k train after r → r ≡ true → Moved after
@@ -194,12 +196,22 @@ module _ (n : ℕ) (release : ℕ → ℕ) (latest : List ℕ) (few : n ≤ 200)
   turn-moves after r (holds-out a b) e = one-outcome e refl
   turn-moves after r (comes-in a b) e =
       let t = comes n release latest few i train capacity pi qi long s b (omega arith) in
-      record { stage = t .stage; unmoved = t .unmoved; fell = t .fell }
+      let c = comer n release latest few i train b in
+      record {
+        stage = t .stage;
+        unmoved = t .unmoved;
+        without = λ j l u. inl (went j u (at-set train (place (best release latest train i n)) i j (omega (arith, c .among))));
+        fell = t .fell;
+      }
+    where
+      went : (j : ℕ) → at (set train (place (best release latest train i n)) i) j ≡ 0 → AtSet train (place (best release latest train i n)) i j → at train j ≡ 0
+      went j u (here v w) = absurd (omega arith)
+      went j u (elsewhere v w) = sym w ∙ u
   turn-moves after r (takes-over a b) e =
       let some : 0 < best release latest train i n = omega arith in
       let t = takes n release latest few i train capacity pi qi long s some (omega (arith, s .room i pi qi)) b
       (omega (arith, best-low n release latest train i few releases)) in
-      record { stage = t .stage; unmoved = t .unmoved; fell = t .fell }
+      record { stage = t .stage; unmoved = t .unmoved; without = λ j l u. inr a; fell = t .fell }
 
   -- OR NOTHING MOVED, AND THE TRAIN IS SETTLED
   pub turn-rests : (after : List ℕ) (r : Bool) → Turn n release latest i k train after r → r ≡ false

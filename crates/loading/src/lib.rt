@@ -24,7 +24,7 @@ ghost use Rattle.model.specs.Limits.{train-counts, capacity-range};
 ghost use Rattle.loading.specs.ToLoad.{loading-of, ToLoad};
 ghost use Rattle.loading.specs.Standing.{place};
 ghost use Rattle.loading.specs.Turns.{Turn, needed};
-ghost use Rattle.loading.specs.Stage.{Counted, Riding, Stage, Unmoved};
+ghost use Rattle.loading.specs.Stage.{Counted, Riding, Stage, Unmoved, Waiting};
 
 // The place of the order with this standing.
 fn place_of(standing: u32) -> usize
@@ -66,10 +66,11 @@ fn take_turn(
     true
 }
 
-// The turns of train i, until nothing moves, or it is full and everybody has a train.
+// The turns of train i, until nothing moves, or it is full and nobody without a train may ride it: `top` is the last train that one of these may ride.
 fn settle_train(
     n: usize,
     i: u8,
+    top: u8,
     capacity: &[u32; MOST_TRAINS],
     release: &[u32; MOST_ORDERS],
     latest: &[u8; MOST_ORDERS],
@@ -77,13 +78,13 @@ fn settle_train(
     riders: &mut [u8; TRAINS_AND_NONE],
 )
     requires { ⌜ Riding n (now release) (now train) (now riders) × (1 ≤ i) × (i ≤ train-counts .most) × (nth (now capacity) i ≤ capacity-range .most) ⌝ }
-    requires { ⌜ Stage n (at (now release)) (nth (now capacity)) (now latest) i (now train) ⌝ }
+    requires { ⌜ Stage n (at (now release)) (nth (now capacity)) (now latest) i (now train) × Waiting n (now latest) top (now train) ⌝ }
     ensures settles { λ _. ⌜ Stage n (at (now (release .entry))) (nth (now (capacity .entry))) (now (latest .entry)) (i - 1) (now (train .exit)) ⌝ }
     ensures keeps { λ _. ⌜ Unmoved n i (now (train .entry)) (now (train .exit)) ⌝ }
     ensures counts { λ _. ⌜ Counted n (now (train .exit)) (now (riders .exit)) ⌝ }
 {
     let places = of_train(capacity, i) as u8;
-    while (riders[i as usize] < places) | (riders[0] > 0) {
+    while (riders[i as usize] < places) | ((riders[0] > 0) & (i <= top)) {
         if !take_turn(n, i, places, release, latest, train, riders) {
             break;
         }
@@ -141,14 +142,17 @@ pub fn load(
             settle_train(
                 n,
                 i as u8,
+                top,
                 &capacity,
                 release,
                 latest,
                 &mut train,
                 &mut riders,
             );
-            top = last_waited_for(n, latest, &train);
-            challenger = greatest_outside(n, 1, release, latest, &train);
+            if riders[0] > 0 {
+                top = last_waited_for(n, latest, &train);
+                challenger = greatest_outside(n, 1, release, latest, &train);
+            }
         }
         i -= 1;
     }

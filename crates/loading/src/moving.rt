@@ -72,10 +72,7 @@ pub fn count_riders(n: usize, train: &[u8; MOST_ORDERS]) -> [u8; TRAINS_AND_NONE
 fn waited_for(last: u8, train: u8, latest: u8) -> u8
     ensures { λ r. ⌜ r ≡ max last (cond (eqb train 0) latest 0) ⌝ }
 {
-    let mut own: u8 = 0;
-    if train == 0 {
-        own = latest;
-    }
+    let own = latest * ((train == 0) as u8);
     if last < own {
         return own;
     }

@@ -14,7 +14,7 @@ use Rattle.loading.specs.Standing.{standing, best, waited}
 use Rattle.loading.specs.Turns.{needed}
 use Rattle.loading.specs.Stage.{Counted, Stage, Known, Unmoved}
 use Rattle.loading.specs.StageLaws.{stage-done}
-use Rattle.loading.specs.SkipLaws.{waits-found, known-next, skip-settled}
+use Rattle.loading.specs.SkipLaws.{waits-found, nobody-waits, known-next, skip-settled}
 use Rattle.loading.specs.BeginLaws.{begins, known-first, stage-loads}
 use Rattle.loading.proofs.load.Statement.{statement}
 use Rattle.loading.proofs.load.Tie as tie
@@ -96,13 +96,14 @@ module _ (l : tie.At-loop Inv-loop μ-loop) where
 
   -- where it has had its turns
   turned : 1 ≤ i → (train riders : List ℕ) (top challenger : ℕ) → Stage n release capacity latest (i - 1) train → Unmoved n i (l .loop .train) train
-      → Counted n train riders → top ≡ waited latest train n → challenger ≡ best release latest train 1 n → Next train riders top challenger
+      → Counted n train riders → ((j : ℕ) → j < n → at train j ≡ 0 → 1 ≤ at latest j → (at latest j ≤ top) × (standing release j ≤ challenger))
+      → Next train riders top challenger
   unfolding Next
-  turned pi train riders top challenger stage unmoved counts a b = (
+  turned pi train riders top challenger stage unmoved counts waits = (
     counts,
     stage,
-    known-next n release capacity latest held low (l .loop .top) (l .loop .challenger) i (l .loop .train) train top challenger unmoved (l .loop .inv .3)
-        (waits-found n release latest train top challenger a b) (i - 1) (omega arith),
+    known-next n release capacity latest held low (l .loop .top) (l .loop .challenger) i (l .loop .train) train top challenger unmoved (l .loop .inv .3) waits
+        (i - 1) (omega arith),
   )
 
   -- where it needs none
@@ -129,8 +130,14 @@ next c =
     let l = c .before .before .before in
     let pi : 1 ≤ l .loop .i = omega arith in
     ⊎-elim
-    (λ w. rw (w .9, w .10, w .11, w .12) (turned l pi _ _ _ _ (w .4 .ensures .0) (w .4 .ensures .1 .0) (w .4 .ensures .1 .1) (w .6 .ensures) (w .8 .ensures)))
-    (λ w. rw (w .1, w .2, w .3, w .4) (passed l pi (sym (c .before .needs-turn .ensures) ∙ w .0 .left)))
+    (λ w. rw (w .10, w .11, w .12, w .13)
+    (turned l pi _ _ _ _ (w .4 .ensures .0) (w .4 .ensures .1 .0) (w .4 .ensures .1 .1)
+    (waits-found (n l) (release l) (latest l) (w .4 .last .1 .1 .1 .1 .1 .1 .0) _ _ (w .7 .ensures) (w .9 .ensures))))
+    (⊎-elim
+    (λ w. rw (w .6, w .7, w .8, w .9)
+    (turned l pi _ _ _ _ (w .4 .ensures .0) (w .4 .ensures .1 .0) (w .4 .ensures .1 .1)
+    (nobody-waits (n l) (release l) (latest l) (w .4 .last .1 .1 .1 .1 .1 .1 .0) (w .4 .last .1 .1 .1 .1 .1 .1 .1 .0) (w .4 .ensures .1 .1) (omega (arith, w .5)))))
+    (λ w. rw (w .1, w .2, w .3, w .4) (passed l pi (sym (c .before .needs-turn .ensures) ∙ w .0 .left))))
     (c .if1 .came)
 
 loop-again : tie.Need-loop-again Inv-loop μ-loop
@@ -148,7 +155,7 @@ settle-train-requires c κs =
         omega (arith, p .few-trains),
         p .capacities _ (omega arith),
       ),
-      stage,
+      (stage, λ j k e h. known .waits j k e h .0),
     )
 
 returns : tie.Need-returns Inv-loop μ-loop
@@ -173,6 +180,6 @@ load-spec =
     loop-holds (λ c. search needs) (λ c. omega (arith, low-train (c .before))) (λ c. omega (arith, low-train (c .before)))
     (λ c. omega (arith, few-places (c .before) (omega arith))) (λ c. search needs) (λ c. omega (arith, low-train (c .before)))
     (λ c. omega (arith, low-train (c .before))) (λ c. omega (arith, low-train (c .before))) (λ c. omega (arith, low-train (c .before)))
-    (λ c. omega (arith, low-train (c .before))) (λ c κs. search needs) (λ c. omega (arith, low-train (c .before .before .before))) settle-train-requires
-    (λ c κs. t (turn (c .before)) .pre .few-orders) (λ c κs. let p = t (turn (c .before .before .before)) .pre in (p .few-orders, p .releases))
+    (λ c. omega (arith, low-train (c .before))) (λ c κs. search needs) (λ c. omega (arith, low-train (c .before .before .before))) settle-train-requires (λ c. search needs)
+    (λ c κs. t (turn (c .before .before)) .pre .few-orders) (λ c κs. let p = t (turn (c .before .before .before .before)) .pre in (p .few-orders, p .releases))
     (λ c. search needs) (λ c. search needs) loop-again returns)
