@@ -17,7 +17,7 @@ use Rattle.loading.specs.Standing.{standing, beyond, least, Lowest}
 use Rattle.loading.specs.StandingLaws.{standing-below, below-standing, least-below, least-is}
 use Rattle.loading.specs.Stage.{Counted}
 use Rattle.loading.specs.CountedLaws.{AtSet, here, elsewhere, at-set}
-use Rattle.loading.specs.Bars.{Room, bar, Barred, Under, AllUnder}
+use Rattle.loading.specs.Bars.{Room, bar, Barred, Skip, Skips, Under, AllUnder}
 
 module _ (n q : ℕ) (release capacity : ℕ → ℕ) (latest train riders low bars : List ℕ) (few : n ≤ 200) (few-trains : q ≤ 32)
     (releases : (j : ℕ) → j < n → release j ≤ 100000) (may : UpTo q n latest) (counts : Counted n train riders) (lows : Lowest n release train low)
@@ -107,13 +107,40 @@ barred-more q capacity riders low bars k v long few p is h i l m = go (at-set ba
     go (here u w) = w ∙ is ∙ ap (bar capacity riders low) (sym u)
     go (elsewhere u w) = w ∙ h i (omega arith) m
 
--- one train more
-pub under-more : (own from : ℕ) (bars : List ℕ) (i : ℕ) → Under own from i bars → own < at bars (i + 1) → Under own from (i + 1) bars
-under-more own from bars i h next m l k = go (decided (decides-eq m (i + 1)))
+-- ---- from one lower bar to the next
+
+-- those between i and m are no lower than i, and m is not either: the same up to the next one of m
+pub skip-on : (i q : ℕ) (bars next : List ℕ) (m : ℕ) → Skip i q bars m → m ≤ q → Skips i q bars next → at bars i ≤ at bars m → Skip i q bars (at next m)
+skip-on i q bars next m s l h low =
+    let z = h m (s .ahead) l in
+    record { ahead = omega (arith, s .ahead, z .ahead); most = z .most; between = λ k a b. go k a b (decided (decides-lt k m)) (decided (decides-eq k m)) }
   where
-    go : (m ≡ i + 1) ⊎ (¬ (m ≡ i + 1)) → own < at bars m
-    go (inl e) = rw e next
-    go (inr e) = h m l (omega arith)
+    go : (k : ℕ) → i < k → k < at next m → (k < m) ⊎ (¬ (k < m)) → (k ≡ m) ⊎ (¬ (k ≡ m)) → at bars i ≤ at bars k
+    go k a b (inl u) v = s .between k a u
+    go k a b (inr u) (inl v) = rw v low
+    go k a b (inr u) (inr v) = omega (arith, low, h m (s .ahead) l .between k (omega arith) b)
+
+pub skip-first : (i q : ℕ) (bars : List ℕ) → i ≤ q → Skip i q bars (i + 1)
+skip-first i q bars l = record { ahead = omega arith; most = omega arith; between = λ k a b. absurd (omega arith) }
+
+-- one train further down
+pub skips-more : (i q : ℕ) (bars next : List ℕ) (m : ℕ) → length next ≡ 33 → 1 ≤ i → i ≤ 32 → Skip i q bars m → Skips i q bars next
+    → Skips (i - 1) q bars (set next i m)
+skips-more i q bars next m long pi few s h k a b = go (at-set next i m k (omega arith))
+  where
+    go : AtSet next i m k → Skip k q bars (at (set next i m) k)
+    go (here u v) = rw (v, u) s
+    go (elsewhere u v) = rw v (h k (omega arith) b)
+
+-- below the bars before i, and below that of i: so below all before the next one of i
+pub under-on : (own from q : ℕ) (bars next : List ℕ) (i : ℕ) → ((k : ℕ) → from < k → k < i → own < at bars k) → own < at bars i → 0 < i → i ≤ q
+    → Skips 0 q bars next → (k : ℕ) → from < k → k < at next i → own < at bars k
+under-on own from q bars next i h low p l s k a b = go (decided (decides-lt k i)) (decided (decides-eq k i))
+  where
+    go : (k < i) ⊎ (¬ (k < i)) → (k ≡ i) ⊎ (¬ (k ≡ i)) → own < at bars k
+    go (inl u) v = h k a u
+    go (inr u) (inl v) = rw v low
+    go (inr u) (inr v) = omega (arith, low, s i p l .between k (omega arith) b)
 
 -- one order more: it has no train, or stands below the bars
 pub all-under-more : (release : ℕ → ℕ) (latest train bars : List ℕ) (j : ℕ) {r : Bool} → Decides (Under (standing release j) (at train j) (at latest j) bars) r

@@ -7,7 +7,7 @@ use crate::standing::standing_of;
 use model::limits::MOST_ORDERS;
 use model::limits::MOST_TRAINS;
 ghost use mathlib.Core.Path.{_≡_};
-ghost use Prim.Native.Nat.{_≤_};
+ghost use Prim.Native.Nat.{ℕ, _≤_, _<_};
 ghost use lib.ListN.{length};
 ghost use Rattle.numbers.specs.Counting.{at, nth};
 ghost use Rattle.numbers.specs.DecidesLaws.{Decides};
@@ -16,7 +16,7 @@ ghost use Rattle.columns.specs.Columns.{UpTo};
 ghost use Rattle.loading.specs.Standing.{Lowest};
 ghost use Rattle.loading.specs.Stage.{Counted};
 ghost use Rattle.loading.specs.Orderly.{Orderly};
-ghost use Rattle.loading.specs.Bars.{Room, Barred, Under, AllUnder};
+ghost use Rattle.loading.specs.Bars.{Room, Barred, Skip, Skips, Under, AllUnder};
 
 // Whether none of the first n trains of a column is above q.
 pub fn none_above(n: usize, column: &[u8; MOST_ORDERS], q: usize) -> bool
@@ -66,17 +66,56 @@ fn find_bars(
     bars
 }
 
-// Whether a standing is below the bars of all trains behind `from`, up to `to`.
-fn is_under(own: u32, from: u8, to: u8, bars: &[u32; TRAINS_AND_NONE]) -> bool
-    requires { ⌜ to ≤ train-counts .most ⌝ }
+// The first train behind i whose bar is lower than that of i, from those that are known; q + 1 where there is none.
+fn next_lower(i: u8, q: u8, bars: &[u32; TRAINS_AND_NONE], next: &[u8; TRAINS_AND_NONE]) -> u8
+    requires { ⌜ (i < q) × (q ≤ train-counts .most) × Skips i q (now bars) (now next) ⌝ }
+    ensures { λ r. ⌜ Skip i q (now (bars .entry)) r ⌝ }
+{
+    let own = bars[i as usize];
+    let mut m = i + 1;
+    while m <= q {
+        if bars[m as usize] < own {
+            break;
+        }
+        m = next[m as usize];
+    }
+    m
+}
+
+// For each of q trains the first one behind it whose bar is lower; q + 1 where there is none.
+fn find_skips(q: u8, bars: &[u32; TRAINS_AND_NONE]) -> [u8; TRAINS_AND_NONE]
+    requires { ⌜ (1 ≤ q) × (q ≤ train-counts .most) ⌝ }
+    ensures { λ r. ⌜ Skips 0 q (now (bars .entry)) r ⌝ }
+{
+    let mut next = [0u8; TRAINS_AND_NONE];
+    next[q as usize] = q + 1;
+    let mut i = q - 1;
+    while i > 0 {
+        let m = next_lower(i, q, bars, &next);
+        next[i as usize] = m;
+        i -= 1;
+    }
+    next
+}
+
+// Whether a standing is below the bars of all trains behind `from`, up to `to`. Behind a bar only a lower one is looked at.
+fn is_under(
+    own: u32,
+    from: u8,
+    to: u8,
+    bars: &[u32; TRAINS_AND_NONE],
+    next: &[u8; TRAINS_AND_NONE],
+) -> bool
+    requires { ⌜ (from ≤ train-counts .most) × (to ≤ train-counts .most) ⌝ }
+    requires { ⌜ ((q : ℕ) × (to ≤ q) × (q ≤ train-counts .most) × Skips 0 q (now bars) (now next)) ⌝ }
     ensures { λ r. ⌜ Decides (Under own from to (now (bars .entry))) r ⌝ }
 {
-    let mut i = from;
-    while i < to {
-        i += 1;
+    let mut i = from + 1;
+    while i <= to {
         if bars[i as usize] <= own {
             return false;
         }
+        i = next[i as usize];
     }
     true
 }
@@ -88,14 +127,16 @@ fn all_under(
     latest: &[u8; MOST_ORDERS],
     train: &[u8; MOST_ORDERS],
     bars: &[u32; TRAINS_AND_NONE],
+    next: &[u8; TRAINS_AND_NONE],
 ) -> bool
-    requires { ⌜ (n ≤ order-counts .most) × UpTo last-instant n (now release) × UpTo (train-counts .most) n (now latest) ⌝ }
+    requires { ⌜ (n ≤ order-counts .most) × UpTo last-instant n (now release) × UpTo (train-counts .most) n (now train) ⌝ }
+    requires { ⌜ ((q : ℕ) × (q ≤ train-counts .most) × UpTo q n (now latest) × Skips 0 q (now bars) (now next)) ⌝ }
     ensures { λ r. ⌜ Decides (AllUnder n (at (now (release .entry))) (now (latest .entry)) (now (train .entry)) (now (bars .entry))) r ⌝ }
 {
     let mut j: usize = 0;
     while j < n {
         let own = standing_of(release, j);
-        let under = (train[j] == 0) | is_under(own, train[j], latest[j], bars);
+        let under = (train[j] == 0) | is_under(own, train[j], latest[j], bars, next);
         if !under {
             return false;
         }
@@ -113,7 +154,7 @@ pub fn are_orderly(
     latest: &[u8; MOST_ORDERS],
     train: &[u8; MOST_ORDERS],
 ) -> bool
-    requires { ⌜ (n ≤ order-counts .most) × (q ≤ train-counts .most) × UpTo last-instant n (now release) ⌝ }
+    requires { ⌜ (n ≤ order-counts .most) × (1 ≤ q) × (q ≤ train-counts .most) × UpTo last-instant n (now release) ⌝ }
     requires { ⌜ UpTo q n (now latest) × (length (now train) ≡ order-counts .most) ⌝ }
     ensures { λ r. ⌜ Decides (Orderly n q (at (now (release .entry))) (nth (now (capacity .entry))) (now (latest .entry)) (now (train .entry))) r ⌝ }
 {
@@ -126,5 +167,6 @@ pub fn are_orderly(
     }
     let low = lowest(n, release, train);
     let bars = find_bars(q, capacity, riders, &low);
-    all_under(n, release, latest, train, &bars)
+    let next = find_skips(q as u8, &bars);
+    all_under(n, release, latest, train, &bars, &next)
 }

@@ -14,10 +14,10 @@ use Rattle.loading.proofs.orderly.all_under.Statement.{statement}
 use Rattle.loading.proofs.orderly.all_under.Tie as tie
 
 abbrev Inv-loop : tie.InvT-loop
-Inv-loop n release latest train bars j₀ j = (j ≤ n) × AllUnder j (at release) latest train bars
+Inv-loop n release latest train bars next j₀ j = (j ≤ n) × AllUnder j (at release) latest train bars
 
 abbrev μ-loop : tie.MeasureT-loop
-μ-loop n release latest train bars j₀ j = n - j
+μ-loop n release latest train bars next j₀ j = n - j
 
 -- the test of the next order
 module _ (c : tie.After-is-under Inv-loop μ-loop) where
@@ -55,8 +55,11 @@ all-under-spec =
     tie.close
     (tie.spec
     Inv-loop μ-loop (λ c. (omega arith, λ y l. absurd (omega arith)))
-    (λ c κs. let l = c .before in (omega (arith, l .before .pre .0), l .before .pre .1 _ (omega arith))) (λ c. search needs) (λ c. search needs) (λ c. search needs)
-    (λ c κs. let l = c .before .before .before .before .before in l .before .pre .2 _ (omega arith))
+    (λ c κs. let l = c .before in (omega (arith, l .before .pre .0 .0), l .before .pre .0 .1 _ (omega arith))) (λ c. search needs) (λ c. search needs) (λ c. search needs)
+    (λ c κs. let l = c .before .before .before .before .before in
+    let p = l .before .pre in
+    let (q, few, low, skips) = p .1 in
+    let to = low (l .loop .j) (omega arith) in ((p .0 .2 _ (omega arith), omega arith), (q, to, few, skips)))
     (λ c. let t = c .before in
     not-all-under _ (release t) (latest t) (train t) (bars t) (l t .loop .j) (omega arith) (tested t) (not-yet _ (c .if1 .taken)))
     (λ c. search needs) (λ c. search needs) loop-again returns-2)

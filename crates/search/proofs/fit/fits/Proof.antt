@@ -37,7 +37,7 @@ fits-spec =
     (λ c κs. let a = c .before .before .pre in (a .few .orders, a .few .trains))
     (λ c. not-begun _ _ (test-fails (c .before .none-above .ensures) (not-yet _ (c .if1 .taken))))
     (λ c κs. let e = tested c in
-    let a = s e .pre in ((a .few .orders, a .few .trains, λ j l. a .in-range .orders j l .release .1), (low e, search needs)))
+    let a = s e .pre in ((a .few .orders, a .complete .trains, a .few .trains, λ j l. a .in-range .orders j l .release .1), (low e, search needs)))
     (λ c κs. let t = s (tested (c .before)) in
     let a = t .pre in (a .few .orders, a .few .trains, few-places (t .args .sheet) a, omega (arith, a .roomy)))
     (λ c κs. s (tested (c .before .before)) .pre)
