@@ -6,13 +6,12 @@ pub mod orderly;
 mod standing;
 
 use crate::moving::TRAINS_AND_NONE;
-use crate::moving::count_riders;
 use crate::moving::last_waited_for;
 use crate::moving::leave_late;
 use crate::moving::move_order;
 use crate::standing::greatest_outside;
 use crate::standing::least_on;
-use crate::standing::lowest;
+use crate::standing::survey;
 use columns::of_train;
 use model::limits::MOST_ORDERS;
 use model::limits::MOST_TRAINS;
@@ -120,9 +119,10 @@ pub fn load(
     requires { ⌜ ToLoad n q (now release) capacity (now latest) train ⌝ }
     ensures { λ r. ⌜ take n r ≡ loading-of n q (at (now (release .entry))) capacity (now (latest .entry)) ⌝ }
 {
-    let mut riders = count_riders(n, &train);
-    let held = riders;
-    let low = lowest(n, release, &train);
+    let found = survey(n, release, &train);
+    let held = found.riders;
+    let low = found.low;
+    let mut riders = held;
     leave_late(n, latest, &mut train, &mut riders);
     let mut top = last_waited_for(n, latest, &train);
     let mut challenger = greatest_outside(n, 1, release, latest, &train);

@@ -54,20 +54,6 @@ pub fn leave_late(
     }
 }
 
-// How many of n orders ride each train, and at place 0 how many ride none.
-pub fn count_riders(n: usize, train: &[u8; MOST_ORDERS]) -> [u8; TRAINS_AND_NONE]
-    requires { ⌜ (n ≤ order-counts .most) × (length (now train) ≡ order-counts .most) × UpTo (train-counts .most) n (now train) ⌝ }
-    ensures { λ r. ⌜ Counted n (now (train .entry)) r ⌝ }
-{
-    let mut riders = [0u8; TRAINS_AND_NONE];
-    let mut j: usize = 0;
-    while j < n {
-        riders[train[j] as usize] += 1;
-        j += 1;
-    }
-    riders
-}
-
 // The later of a train and the latest train of an order that has none.
 fn waited_for(last: u8, train: u8, latest: u8) -> u8
     ensures { λ r. ⌜ r ≡ max last (cond (eqb train 0) latest 0) ⌝ }

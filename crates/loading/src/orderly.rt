@@ -1,9 +1,8 @@
 // Whether trains that come from outside are such as a loading may begin from.
 use crate::moving::TRAINS_AND_NONE;
-use crate::moving::count_riders;
-use crate::standing::lowest;
 use crate::standing::one_of;
 use crate::standing::standing_of;
+use crate::standing::survey;
 use model::limits::MOST_ORDERS;
 use model::limits::MOST_TRAINS;
 ghost use mathlib.Core.Path.{_≡_};
@@ -161,11 +160,12 @@ pub fn are_orderly(
     if !none_above(n, train, q) {
         return false;
     }
-    let riders = count_riders(n, train);
+    let found = survey(n, release, train);
+    let riders = found.riders;
+    let low = found.low;
     if !have_room(q, capacity, riders) {
         return false;
     }
-    let low = lowest(n, release, train);
     let bars = find_bars(q, capacity, riders, &low);
     let next = find_skips(q as u8, &bars);
     all_under(n, release, latest, train, &bars, &next)

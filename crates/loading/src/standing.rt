@@ -5,9 +5,11 @@ use model::limits::MOST_ORDERS;
 ghost use mathlib.Core.Path.{_≡_};
 ghost use mathlib.Core.Bool.{cond};
 ghost use Prim.Native.Nat.{_<_, _≤_, min};
+ghost use lib.ListN.{length};
 ghost use Rattle.numbers.specs.Counting.{at};
 ghost use Rattle.model.specs.Limits.{order-counts, train-counts, last-instant};
 ghost use Rattle.columns.specs.Columns.{UpTo};
+ghost use Rattle.loading.specs.Stage.{Counted};
 ghost use Rattle.loading.specs.Standing.{standing, best, least, Lowest};
 
 // More than an order's number.
@@ -81,21 +83,28 @@ pub fn least_on(n: usize, i: u8, release: &[u32; MOST_ORDERS], train: &[u8; MOST
     least
 }
 
-// The least standing on each train, among n orders; at place 0 that of those who have none.
-pub fn lowest(
-    n: usize,
-    release: &[u32; MOST_ORDERS],
-    train: &[u8; MOST_ORDERS],
-) -> [u32; TRAINS_AND_NONE]
+// The riders of each train, and of none at place 0: how many they are, and the least standing among them.
+pub struct Riders {
+    pub riders: [u8; TRAINS_AND_NONE],
+    pub low: [u32; TRAINS_AND_NONE],
+}
+
+// The riders among n orders on these trains.
+pub fn survey(n: usize, release: &[u32; MOST_ORDERS], train: &[u8; MOST_ORDERS]) -> Riders
     requires { ⌜ (n ≤ order-counts .most) × UpTo last-instant n (now release) × UpTo (train-counts .most) n (now train) ⌝ }
-    ensures { λ r. ⌜ Lowest n (at (now (release .entry))) (now (train .entry)) r ⌝ }
+    requires { ⌜ length (now train) ≡ order-counts .most ⌝ }
+    ensures counts { λ r. ⌜ Counted n (now (train .entry)) (r .riders) ⌝ }
+    ensures lows { λ r. ⌜ Lowest n (at (now (release .entry))) (now (train .entry)) (r .low) ⌝ }
 {
+    let mut riders = [0u8; TRAINS_AND_NONE];
     let mut low = [BEYOND; TRAINS_AND_NONE];
     let mut j: usize = 0;
     while j < n {
+        let own = standing_of(release, j);
         let i = train[j] as usize;
-        low[i] = smaller(low[i], standing_of(release, j));
+        riders[i] += 1;
+        low[i] = smaller(low[i], own);
         j += 1;
     }
-    low
+    Riders { riders, low }
 }

@@ -20,12 +20,12 @@ use Rattle.loading.proofs.load.Statement.{statement}
 use Rattle.loading.proofs.load.Tie as tie
 
 abbrev Inv-loop : tie.InvT-loop
-Inv-loop n q release latest capacity train₀ riders₀ held low top₀ challenger₀ i₀ train riders top challenger i =
+Inv-loop n q release latest capacity train₀ held low riders₀ top₀ challenger₀ i₀ train riders top challenger i =
     (i ≤ q) × Counted n train riders × Stage n (at release) (nth capacity) latest i train
     × Known n (at release) (nth capacity) latest held low top challenger i train
 
 abbrev μ-loop : tie.MeasureT-loop
-μ-loop n q release latest capacity train₀ riders₀ held low top₀ challenger₀ i₀ train riders top challenger i = i
+μ-loop n q release latest capacity train₀ held low riders₀ top₀ challenger₀ i₀ train riders top challenger i = i
 
 rides : {n q : ℕ} {release capacity latest train : List ℕ} → ToLoad n q release capacity latest train → UpTo 32 n train
 rides p j l = omega (arith, p .begins .up-to j l, p .few-trains)
@@ -35,14 +35,11 @@ module _ (c : tie.After-greatest-outside Inv-loop μ-loop) where
   abbrev left : tie.After-leave-late Inv-loop μ-loop
   left = c .before .before .before .before
 
-  abbrev lowest : tie.After-lowest Inv-loop μ-loop
-  lowest = left .before .before .before
-
-  abbrev first : tie.After-count-riders Inv-loop μ-loop
-  first = lowest .before .before
+  abbrev found : tie.After-survey Inv-loop μ-loop
+  found = left .before .before .before .before .before
 
   abbrev s : tie.Start Inv-loop μ-loop
-  s = first .before .before
+  s = found .before .before
 
 loop-holds : tie.Need-loop-holds Inv-loop μ-loop
 loop-holds c =
@@ -53,7 +50,7 @@ loop-holds c =
       left c .leave-late .ensures .1,
       begins (a .n) (a .q) (at (a .release .now)) (nth (a .t4)) (a .latest .now) (a .t6) _ (p .begins) k (p .few-trains) (p .may-ride),
       known-first (a .n) (a .q) (at (a .release .now)) (nth (a .t4)) (a .latest .now) (a .t6) _ (p .begins) k (p .few-trains) (p .may-ride)
-          (first c .count-riders .result) (lowest c .lowest .result) _ _ (first c .count-riders .ensures) (lowest c .lowest .ensures)
+          (found c .survey .result .riders) (found c .survey .result .low) _ _ (found c .survey .ensures .0) (found c .survey .ensures .1)
           (waits-found (a .n) (at (a .release .now)) (a .latest .now) (left c .leave-late .last .1 .1 .0) _ _ (c .before .before .last-waited-for .ensures) (c .greatest-outside .ensures)),
     )
 
@@ -78,10 +75,10 @@ module _ (l : tie.At-loop Inv-loop μ-loop) where
   i = l .loop .i
 
   abbrev held : List ℕ
-  held = first (l .before) .count-riders .result
+  held = found (l .before) .survey .result .riders
 
   abbrev low : List ℕ
-  low = lowest (l .before) .lowest .result
+  low = found (l .before) .survey .result .low
 
   low-train : i ≤ 32
   low-train = omega (arith, l .loop .inv .0, t .pre .few-trains)
@@ -172,9 +169,9 @@ load-spec =
     tie.close
     (tie.spec
     Inv-loop μ-loop
-    (λ c κs. let p = c .before .pre in (p .few-orders, search needs, rides p))
-    (λ c κs. let p = c .before .before .before .pre in (p .few-orders, p .releases, rides p))
-    (λ c κs. let p = c .before .before .before .before .before .before .pre in (p .few-orders, rides p, c .before .before .before .before .count-riders .ensures))
+    (λ c κs. let p = c .before .pre in ((p .few-orders, p .releases, rides p), search needs))
+    (λ c κs. let found = c .before .before .before .before in
+    let p = found .before .before .pre in (p .few-orders, rides p, found .survey .ensures .0))
     (λ c κs. c .before .before .before .before .before .before .before .before .pre .few-orders)
     (λ c κs. let p = c .before .before .before .before .before .before .before .before .before .before .pre in (p .few-orders, p .releases))
     loop-holds (λ c. search needs) (λ c. omega (arith, low-train (c .before))) (λ c. omega (arith, low-train (c .before)))
