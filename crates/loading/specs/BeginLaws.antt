@@ -16,10 +16,11 @@ use Rattle.rounds.specs.Loading.{load}
 use Rattle.rounds.specs.Settled.{Could, Settled-at, Settled-above, Settled}
 use Rattle.rounds.specs.SettledLaws.{settled-is-load, load-settles}
 use Rattle.loading.specs.Orderly.{Orderly}
-use Rattle.loading.specs.Standing.{standing, Lowest}
-use Rattle.loading.specs.StandingLaws.{least-below}
-use Rattle.loading.specs.ToLoad.{stays, Stays, loading-of}
-use Rattle.loading.specs.Stage.{Counted, Stage, Known}
+use Rattle.riders.specs.Standing.{standing, Lowest}
+use Rattle.riders.specs.StandingLaws.{least-below}
+use Rattle.riders.specs.Riders.{stays, Stays, Counted}
+use Rattle.loading.specs.ToLoad.{loading-of}
+use Rattle.loading.specs.Stage.{Stage, Known}
 
 module _ (n q : ℕ) (release capacity : ℕ → ℕ) (latest : List ℕ) where
   data Stayed (before : ℕ) (j now : ℕ) : Type 0 where

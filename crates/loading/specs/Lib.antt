@@ -1,14 +1,8 @@
 pub mod Orderly
 pub mod ToLoad
-pub mod Standing
-pub mod StandingLaws
 pub mod Turns
 pub mod Stage
-pub mod CountedLaws
-pub mod StepLaws
 pub mod StageLaws
 pub mod TurnLaws
 pub mod SkipLaws
 pub mod BeginLaws
-pub mod Bars
-pub mod BarLaws

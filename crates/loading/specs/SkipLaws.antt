@@ -10,10 +10,11 @@ use Rattle.numbers.specs.Counting.{at, count}
 use Rattle.numbers.specs.DecidesLaws.{Decides, decides-le, decides-lt, decides-eq, decides-and, decides-or, decided, test-fails}
 use Rattle.rounds.specs.LoadingLaws.{Below, on, decides-on}
 use Rattle.rounds.specs.Settled.{Could, Settled-at}
-use Rattle.loading.specs.Standing.{standing, best, waited}
-use Rattle.loading.specs.StandingLaws.{standing-below, decides-could, greatest-above}
-use Rattle.loading.specs.Stage.{Counted, Stage, Known, Unmoved}
-use Rattle.loading.specs.CountedLaws.{rides-one}
+use Rattle.riders.specs.Standing.{standing, best, waited}
+use Rattle.riders.specs.StandingLaws.{standing-below, decides-could, greatest-above}
+use Rattle.riders.specs.Riders.{Counted}
+use Rattle.loading.specs.Stage.{Stage, Known, Unmoved}
+use Rattle.riders.specs.CountedLaws.{rides-one}
 use Rattle.loading.specs.Turns.{needed}
 
 decides-needed : (waiting riders places held low top challenger i : ℕ)

@@ -8,21 +8,8 @@ use Rattle.model.specs.Limits.{order-counts, train-counts, last-instant}
 use Rattle.rounds.specs.LoadingLaws.{Below, on}
 use Rattle.rounds.specs.Settled.{Could, Settled-above}
 use Rattle.columns.specs.Columns.{UpTo}
-use Rattle.loading.specs.ToLoad.{Stays}
-use Rattle.loading.specs.Standing.{standing}
-
--- how many of n orders ride each train, and at place 0 how many have none
-pub record Counted (n : ℕ) (train riders : List ℕ) : Type 0 where
-  pub places : length train ≡ order-counts .most
-  pub trains : length riders ≡ train-counts .most + 1
-  pub counted : (i : ℕ) → i ≤ train-counts .most → at riders i ≡ count (on train i) n
-
--- orders and trains inside document 01's limits, and how many ride each
-pub record Riding (n : ℕ) (release train riders : List ℕ) : Type 0 where
-  pub few : n ≤ order-counts .most
-  pub releases : UpTo last-instant n release
-  pub up-to : UpTo (train-counts .most) n train
-  pub counts : Counted n train riders
+use Rattle.riders.specs.Riders.{Stays}
+use Rattle.riders.specs.Standing.{standing}
 
 -- No train has more orders than places; and an order that has a train and may ride a later one, up to i, is below all who ride that. A sheet's trains are the
 -- first of so many as a sheet may have; nobody may ride the others.
@@ -45,9 +32,3 @@ pub record Known (n : ℕ) (release capacity : ℕ → ℕ) (latest held low : L
   pub lows : (x : ℕ) → x < n → 1 ≤ at train x → at train x ≤ i → at low (at train x) ≤ standing release x
   pub full : (y m : ℕ) → y < n → 1 ≤ at train y → m ≤ i → Could latest train m y → at held m ≡ capacity m
   pub waits : (j : ℕ) → j < n → at train j ≡ 0 → 1 ≤ at latest j → (at latest j ≤ top) × (standing release j ≤ challenger)
-
--- of the first j orders those who are above their latest trains have lost their trains, and the others are as before
-pub record LeftTo (n : ℕ) (latest before : List ℕ) (j : ℕ) (train riders : List ℕ) : Type 0 where
-  pub done : Stays j latest before train
-  pub same : (k : ℕ) → j ≤ k → at train k ≡ at before k
-  pub counts : Counted n train riders

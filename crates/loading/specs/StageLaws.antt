@@ -13,10 +13,10 @@ use Rattle.numbers.specs.CountingLaws.{count-mono}
 use Rattle.rounds.specs.LoadingLaws.{Below, on, decides-on}
 use Rattle.rounds.specs.Settled.{Could, Settled-at, Settled-above}
 use Rattle.rounds.specs.SettledLaws.{settled-kept, settled-next}
-use Rattle.loading.specs.Standing.{standing, beyond, best, least}
-use Rattle.loading.specs.StandingLaws.{standing-below, decides-could, greatest-above, least-below}
+use Rattle.riders.specs.Standing.{standing, beyond, best, least}
+use Rattle.riders.specs.StandingLaws.{standing-below, decides-could, greatest-above, least-below}
 use Rattle.loading.specs.Stage.{Stage, Unmoved}
-use Rattle.loading.specs.CountedLaws.{AtSet, here, elsewhere, at-set, one-more}
+use Rattle.riders.specs.CountedLaws.{AtSet, here, elsewhere, at-set, one-more}
 
 -- the test for a further turn: the train is short, or one without a train may ride it
 abbrev pub Wanted : (riders places waiting i top : ℕ) → Type 0

@@ -23,10 +23,3 @@ pub record ToLoad (n q : ℕ) (release capacity latest train : List ℕ) : Type 
   pub capacities : UpTo (capacity-range .most) q capacity
   pub may-ride : UpTo q n latest
   pub begins : Orderly n q (at release) (nth capacity) latest train
-
--- the train that order j keeps: none, where it is above its latest
-abbrev pub stays : (latest train : List ℕ) → ℕ → ℕ
-stays latest train j = cond (leb (at train j) (at latest j)) (at train j) 0
-
-abbrev pub Stays : (n : ℕ) (latest before after : List ℕ) → Type 0
-Stays n latest before after = (j : ℕ) → j < n → at after j ≡ stays latest before j

@@ -11,11 +11,11 @@ use Rattle.numbers.specs.Counting.{at, count}
 use Rattle.numbers.specs.DecidesLaws.{decides-lt, decides-eq, decided, one-outcome}
 use Rattle.rounds.specs.LoadingLaws.{Below, on, decides-on}
 use Rattle.rounds.specs.Settled.{Could, Settled-at}
-use Rattle.loading.specs.Standing.{standing, place, beyond, best, least}
-use Rattle.loading.specs.StandingLaws.{standing-below, place-of, decides-could, greatest-above, greatest-is, least-is}
+use Rattle.riders.specs.Standing.{standing, place, beyond, best, least}
+use Rattle.riders.specs.StandingLaws.{standing-below, place-of, decides-could, greatest-above, greatest-is, least-is}
 use Rattle.loading.specs.Turns.{Turn, none-comes, comes-in, holds-out, takes-over}
 use Rattle.loading.specs.Stage.{Stage, Unmoved}
-use Rattle.loading.specs.CountedLaws.{AtSet, here, elsewhere, at-set, one-more}
+use Rattle.riders.specs.CountedLaws.{AtSet, here, elsewhere, at-set, one-more}
 use Rattle.loading.specs.StageLaws.{rests-short, rests-full, stage-leaves, stage-comes}
 
 module _ (n : ℕ) (release : ℕ → ℕ) (latest : List ℕ) (few : n ≤ 200) (i : ℕ) (train : List ℕ) where

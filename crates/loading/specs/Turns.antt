@@ -7,7 +7,7 @@ use lib.Dec.{ltb, leb, eqb}
 use lib.ListN.{set}
 use Rattle.numbers.specs.Counting.{count}
 use Rattle.rounds.specs.LoadingLaws.{on}
-use Rattle.loading.specs.Standing.{place, best, least}
+use Rattle.riders.specs.Standing.{place, best, least}
 
 -- Whether train i needs a turn: it was full and has lost an order; or one without a train may ride it and finds room, or may beat one on it. Of the train are
 -- known how many ride it now and at first, and a bound below their standings; of those without a train how many they are, the last train that they may ride, and

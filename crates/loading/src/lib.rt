@@ -1,29 +1,26 @@
 // Step 1 of a round: loading. It begins from the trains of the round before, which must be orderly for the latest trains of this one: orders that are too late
 // lose their trains, and then each train, from the last down, takes in the greatest order that could come while there is room or that order beats the least on
 // the train. `BeginLaws` shows that this is the loading of document 01, whatever trains it began from.
-mod moving;
-pub mod orderly;
-mod standing;
-
-use crate::moving::TRAINS_AND_NONE;
-use crate::moving::last_waited_for;
-use crate::moving::leave_late;
-use crate::moving::move_order;
-use crate::standing::greatest_outside;
-use crate::standing::least_on;
-use crate::standing::survey;
 use columns::of_train;
 use model::limits::MOST_ORDERS;
 use model::limits::MOST_TRAINS;
+use riders::moving::TRAINS_AND_NONE;
+use riders::moving::last_waited_for;
+use riders::moving::leave_late;
+use riders::moving::move_order;
+use riders::standing::greatest_outside;
+use riders::standing::least_on;
+use riders::standing::survey;
 ghost use mathlib.Core.Path.{_≡_};
 ghost use Prim.Native.Nat.{_-_, _%_, _≤_};
 ghost use lib.ListN.{take};
 ghost use Rattle.numbers.specs.Counting.{at, nth};
 ghost use Rattle.model.specs.Limits.{train-counts, capacity-range};
 ghost use Rattle.loading.specs.ToLoad.{loading-of, ToLoad};
-ghost use Rattle.loading.specs.Standing.{place};
+ghost use Rattle.riders.specs.Standing.{place};
 ghost use Rattle.loading.specs.Turns.{Turn, needed};
-ghost use Rattle.loading.specs.Stage.{Counted, Riding, Stage, Unmoved, Waiting};
+ghost use Rattle.riders.specs.Riders.{Counted, Riding};
+ghost use Rattle.loading.specs.Stage.{Stage, Unmoved, Waiting};
 
 // The place of the order with this standing.
 fn place_of(standing: u32) -> usize

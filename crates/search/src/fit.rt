@@ -1,9 +1,9 @@
 // Whether a round can be made from a progress that comes from outside.
 use crate::Progress;
-use loading::orderly::are_orderly;
-use loading::orderly::none_above;
 use lowering::is_crowded;
 use model::Sheet;
+use orderly::are_orderly;
+use orderly::none_above;
 ghost use Rattle.numbers.specs.DecidesLaws.{Decides};
 ghost use Rattle.model.specs.Memory.{sheetOf};
 ghost use Rattle.model.specs.Admission.{Admitted};

@@ -10,9 +10,10 @@ use lib.ListN.{length, length-set}
 use Rattle.numbers.specs.Counting.{at, nth}
 use Rattle.columns.specs.Columns.{UpTo}
 use Rattle.loading.specs.ToLoad.{ToLoad}
-use Rattle.loading.specs.Standing.{standing, best, waited}
+use Rattle.riders.specs.Standing.{standing, best, waited}
 use Rattle.loading.specs.Turns.{needed}
-use Rattle.loading.specs.Stage.{Counted, Stage, Known, Unmoved}
+use Rattle.riders.specs.Riders.{Counted}
+use Rattle.loading.specs.Stage.{Stage, Known, Unmoved}
 use Rattle.loading.specs.StageLaws.{stage-done}
 use Rattle.loading.specs.SkipLaws.{waits-found, nobody-waits, known-next, skip-settled}
 use Rattle.loading.specs.BeginLaws.{begins, known-first, stage-loads}

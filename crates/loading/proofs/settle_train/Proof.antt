@@ -10,9 +10,10 @@ use Rattle.numbers.specs.Counting.{at, nth, count}
 use Rattle.numbers.specs.DecidesLaws.{decides-lt, decided, test-means, test-fails, not-yet, by-now}
 use Rattle.rounds.specs.LoadingLaws.{on}
 use Rattle.rounds.specs.Settled.{Settled-at}
-use Rattle.loading.specs.Standing.{best}
-use Rattle.loading.specs.Stage.{Counted, Stage, Unmoved}
-use Rattle.loading.specs.CountedLaws.{rides-one}
+use Rattle.riders.specs.Standing.{best}
+use Rattle.riders.specs.Riders.{Counted}
+use Rattle.loading.specs.Stage.{Stage, Unmoved}
+use Rattle.riders.specs.CountedLaws.{rides-one}
 use Rattle.loading.specs.StageLaws.{decides-wanted, wanted-full, not-wanted, unmoved-then, stage-done, rests-idle}
 use Rattle.loading.specs.TurnLaws.{Moved, turn-moves, turn-rests}
 use Rattle.loading.proofs.settle_train.Statement.{statement}

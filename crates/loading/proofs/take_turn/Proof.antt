@@ -9,8 +9,8 @@ use lib.ListN.{set}
 use lib.Seq.{getD-set-other}
 use Rattle.numbers.specs.Counting.{at, count}
 use Rattle.rounds.specs.LoadingLaws.{on}
-use Rattle.loading.specs.Standing.{standing, place, beyond, best, least}
-use Rattle.loading.specs.Stage.{Counted}
+use Rattle.riders.specs.Standing.{standing, place, beyond, best, least}
+use Rattle.riders.specs.Riders.{Counted}
 use Rattle.loading.specs.Turns.{Turn, none-comes, comes-in, holds-out, takes-over}
 use Rattle.loading.specs.TurnLaws.{Comer, comer, Leaver, leaver}
 use Rattle.loading.proofs.take_turn.Statement.{statement}

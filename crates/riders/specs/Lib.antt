@@ -1,0 +1,5 @@
+pub mod Standing
+pub mod StandingLaws
+pub mod Riders
+pub mod CountedLaws
+pub mod StepLaws
