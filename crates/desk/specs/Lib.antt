@@ -1,5 +1,4 @@
 pub mod Printing
-pub mod Wish
 pub mod AnswerBytes
 pub mod ListedLaws
 pub mod WishLaws

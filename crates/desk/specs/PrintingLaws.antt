@@ -35,7 +35,7 @@ use Rattle.writing.specs.declared.Printed.the-variants.{Bytes, TooShort}
 use Rattle.layout.specs.Lines.{refusal-line}
 use Rattle.printer.specs.PlanBytes.{plan-bytes}
 use Rattle.desk.specs.Printing.{form-of, PlanBytes, ListBytes, SheetBytes, ReadBytes, TextBytes, TextPrinted, Put}
-use Rattle.desk.specs.Wish.{ForLast}
+use Rattle.areas.specs.Wish.{ForLast}
 use Rattle.desk.specs.WishLaws.{wished-last}
 use Rattle.desk.specs.AnswerBytes.{last-recorded}
 use Rattle.desk.specs.ListedLaws.{has-listed, last-answered}

@@ -1,6 +1,4 @@
 // From the text of a sheet to the bytes of its printed plan.
-mod areas;
-
 use areas::first_orders;
 use areas::first_pairs;
 use areas::first_times;

@@ -7,9 +7,9 @@ use mir.Facts.{toZ-ofZ}
 use mir.Syntax.{w64}
 use borrow.Author.Needs.{needs}
 use Rattle.model.specs.Limits.{numbers-a-pair}
-use Rattle.desk.specs.Wish.{arrival-of}
-use Rattle.desk.proofs.areas.last_arrival.Statement.{statement}
-use Rattle.desk.proofs.areas.last_arrival.Tie as tie
+use Rattle.areas.specs.Wish.{arrival-of}
+use Rattle.areas.proofs.last_arrival.Statement.{statement}
+use Rattle.areas.proofs.last_arrival.Tie as tie
 
 returns-3 : tie.Need-returns-3
 returns-3 c some long =

@@ -6,7 +6,7 @@ ghost use mathlib.Core.Path.{_≡_};
 ghost use Prim.Native.Nat.{_*_};
 ghost use lib.ListN.{take};
 ghost use Rattle.model.specs.Limits.{numbers-a-pair, numbers-a-train};
-ghost use Rattle.desk.specs.Wish.{arrival-of, ForLast};
+ghost use Rattle.areas.specs.Wish.{arrival-of, ForLast};
 
 // The numbers of the first pairs; all numbers if there are no more.
 pub fn first_pairs(pairs: &[i64], count: usize) -> &[i64]

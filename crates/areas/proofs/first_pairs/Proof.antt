@@ -6,8 +6,8 @@ use lib.Seq.{take-all}
 use borrow.Author.Needs.{needs}
 use Rattle.numbers.specs.ListLaws.{part-from-0}
 use Rattle.model.specs.Limits.{numbers-a-pair}
-use Rattle.desk.proofs.areas.first_pairs.Statement.{statement}
-use Rattle.desk.proofs.areas.first_pairs.Tie as tie
+use Rattle.areas.proofs.first_pairs.Statement.{statement}
+use Rattle.areas.proofs.first_pairs.Tie as tie
 
 pub first-pairs-spec : {M : Type 1} → statement M
 first-pairs-spec =

@@ -2,9 +2,9 @@
 use mir.Facts.{toZ-ofZ}
 use mir.Syntax.{w64}
 use borrow.Author.Needs.{needs}
-use Rattle.desk.specs.WishLaws.{negative, too-great, IsArrival, an-arrival}
-use Rattle.desk.proofs.areas.arrival_of.Statement.{statement}
-use Rattle.desk.proofs.areas.arrival_of.Tie as tie
+use Rattle.areas.specs.WishLaws.{negative, too-great, IsArrival, an-arrival}
+use Rattle.areas.proofs.arrival_of.Statement.{statement}
+use Rattle.areas.proofs.arrival_of.Tie as tie
 
 returns : tie.Need-returns
 returns c =

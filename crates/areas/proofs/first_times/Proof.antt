@@ -6,8 +6,8 @@ use lib.Seq.{take-all}
 use borrow.Author.Needs.{needs}
 use Rattle.numbers.specs.ListLaws.{part-from-0}
 use Rattle.model.specs.Limits.{numbers-a-train}
-use Rattle.desk.proofs.areas.first_times.Statement.{statement}
-use Rattle.desk.proofs.areas.first_times.Tie as tie
+use Rattle.areas.proofs.first_times.Statement.{statement}
+use Rattle.areas.proofs.first_times.Tie as tie
 
 pub first-times-spec : {M : Type 1} → statement M
 first-times-spec =

@@ -4,8 +4,8 @@ use native.Mathlib.Omega.{arith}
 use lib.Seq.{take-all}
 use borrow.Author.Needs.{needs}
 use Rattle.numbers.specs.ListLaws.{part-from-0}
-use Rattle.desk.proofs.areas.first_orders.Statement.{statement}
-use Rattle.desk.proofs.areas.first_orders.Tie as tie
+use Rattle.areas.proofs.first_orders.Statement.{statement}
+use Rattle.areas.proofs.first_orders.Tie as tie
 
 pub first-orders-spec : {M : Type 1} → statement M
 first-orders-spec =
