@@ -11,9 +11,9 @@ use lib.Seq.{getD-take}
 use Rattle.numbers.specs.Counting.{at, nth, count}
 use Rattle.numbers.specs.DecidesLaws.{Decides, decides-le, decided}
 use Rattle.numbers.specs.CountingLaws.{count-mono, count-cong, count-none}
-use Rattle.rounds.specs.LoadingLaws.{Below, on, decides-on}
+use Rattle.rounds.specs.LoadingLaws.{on, decides-on}
 use Rattle.rounds.specs.Loading.{load}
-use Rattle.rounds.specs.Settled.{Could, Settled-at, Settled-above, Settled}
+use Rattle.rounds.specs.Settled.{Settled-at, Settled}
 use Rattle.rounds.specs.SettledLaws.{settled-is-load, load-settles}
 use Rattle.loading.specs.Orderly.{Orderly}
 use Rattle.riders.specs.Standing.{standing, Lowest}

@@ -1,11 +1,10 @@
 -- WHICH TRAINS NEED NO TURN, and what is known behind one that has had its turns. Assumes nothing.
-use mathlib.Core.Path.{_≡_, sym, ap, _∙_}
+use mathlib.Core.Path.{_≡_, ap}
 use mathlib.Core.Logic.{_⊎_, inl, inr}
-use mathlib.Core.Bool.{Bool, _&&_, _||_, false}
+use mathlib.Core.Bool.{false}
 use mathlib.Core.List.{List}
-use Prim.Native.Nat.{ℕ, suc, _-_, _≤_, _<_}
+use Prim.Native.Nat.{ℕ, _≤_, _<_}
 use native.Mathlib.Omega.{arith}
-use lib.Dec.{ltb, leb, eqb}
 use Rattle.numbers.specs.Counting.{at, count}
 use Rattle.numbers.specs.DecidesLaws.{Decides, decides-le, decides-lt, decides-eq, decides-and, decides-or, decided, test-fails}
 use Rattle.rounds.specs.LoadingLaws.{Below, on, decides-on}
@@ -25,7 +24,8 @@ decides-needed waiting riders places held low top challenger i =
     (decides-and (decides-and (decides-lt 0 waiting) (decides-le _ _)) (decides-or (decides-lt _ _) (decides-lt _ _)))
 
 -- those without a train: the last train that they may ride, and the greatest standing among them
-pub waits-found : (n : ℕ) (release : ℕ → ℕ) (latest train : List ℕ) (top challenger : ℕ) → top ≡ waited latest train n → challenger ≡ best release latest train 1 n
+pub waits-found : (n : ℕ) (release : ℕ → ℕ) (latest train : List ℕ) (top challenger : ℕ) → top ≡ waited latest train n → challenger
+    ≡ best release latest train 1 n
     → (j : ℕ) → j < n → at train j ≡ 0 → 1 ≤ at latest j → (at latest j ≤ top) × (standing release j ≤ challenger)
 waits-found n release latest train top challenger a b j l e p = (
   rw a (greatest-above (decides-on train 0) (at latest) n j l e),

@@ -3,7 +3,7 @@ use mathlib.Core.Path.{_≡_, refl, sym, ap, _∙_, subst}
 use mathlib.Core.Logic.{_⊎_, inl, inr}
 use mathlib.Core.Bool.{_&&_, _||_}
 use mathlib.Core.List.{List}
-use Prim.Native.Nat.{ℕ, suc, _-_, _%_, _≤_, _<_}
+use Prim.Native.Nat.{ℕ, suc, _-_, _≤_, _<_}
 use native.Mathlib.Omega.{arith}
 use lib.Dec.{ltb, leb}
 use lib.ListN.{length, set}
@@ -11,9 +11,9 @@ use Rattle.numbers.specs.Counting.{at, count}
 use Rattle.numbers.specs.DecidesLaws.{Decides, decides-le, decides-lt, decides-eq, decides-and, decides-or, decided}
 use Rattle.numbers.specs.CountingLaws.{count-mono}
 use Rattle.rounds.specs.LoadingLaws.{Below, on, decides-on}
-use Rattle.rounds.specs.Settled.{Could, Settled-at, Settled-above}
+use Rattle.rounds.specs.Settled.{Could, Settled-at}
 use Rattle.rounds.specs.SettledLaws.{settled-kept, settled-next}
-use Rattle.riders.specs.Standing.{standing, beyond, best, least}
+use Rattle.riders.specs.Standing.{standing, best, least}
 use Rattle.riders.specs.StandingLaws.{standing-below, decides-could, greatest-above, least-below}
 use Rattle.loading.specs.Stage.{Stage, Unmoved}
 use Rattle.riders.specs.CountedLaws.{AtSet, here, elsewhere, at-set, one-more}
@@ -84,7 +84,12 @@ module _ (n : ℕ) (release capacity : ℕ → ℕ) (latest : List ℕ) where
           room = s .room i pi qi;
           beaten = λ x y lx ly e c.
               standing-below release y x (omega arith) (omega arith) (λ u. omega (arith, c .0, ap (at train) u))
-              (omega (arith, greatest-above (decides-could latest train i) (standing release) n y ly c, least-below (decides-on train i) (standing release) n x lx e));
+              (omega (
+                arith,
+                greatest-above (decides-could latest train i) (standing release) n y ly c,
+                least-below (decides-on train i)
+                    (standing release) n x lx e,
+              ));
           full = λ y ly c. full;
         }
 

@@ -1,9 +1,6 @@
 -- WHAT A LOADING TAKES AND GIVES, in columns: the first n elements of those of orders count, and train i has its element at place i - 1.
-use mathlib.Core.Path.{_≡_}
-use mathlib.Core.Bool.{cond}
 use mathlib.Core.List.{List}
-use Prim.Native.Nat.{ℕ, _≤_, _<_}
-use lib.Dec.{leb}
+use Prim.Native.Nat.{ℕ, _≤_}
 use lib.ListN.{take}
 use Rattle.numbers.specs.Counting.{at, nth}
 use Rattle.model.specs.Limits.{order-counts, train-counts, capacity-range, last-instant}

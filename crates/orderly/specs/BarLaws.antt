@@ -8,7 +8,8 @@ use native.Mathlib.Omega.{arith}
 use lib.Dec.{eqb, leb}
 use lib.ListN.{length, set}
 use Rattle.numbers.specs.Counting.{at, nth, count, every}
-use Rattle.numbers.specs.DecidesLaws.{Decides, decides-le, decides-lt, decides-eq, decides-every, decides-or, decides-iff, decided, test-means, test-fails, cond-yes}
+use Rattle.numbers.specs.DecidesLaws.{Decides, decides-le, decides-lt, decides-eq, decides-every}
+use Rattle.numbers.specs.DecidesLaws.{decides-or, decides-iff, decided, test-means, test-fails, cond-yes}
 use Rattle.rounds.specs.LoadingLaws.{Below, on, decides-on}
 use Rattle.rounds.specs.Settled.{Could}
 use Rattle.columns.specs.Columns.{UpTo}
@@ -43,7 +44,8 @@ module _ (n q : ℕ) (release capacity : ℕ → ℕ) (latest train riders low b
   into o y ly p i l h =
       let c : Could latest train i y = (l, h) in
       let full = o .full y i ly p c in
-      let least-bar = bar-is i (omega arith) (omega (arith, may y ly)) ∙ cond-yes (decides-eq (count (on train i) n) (capacity i)) full (least release train i n) 0 in
+      let least-bar = bar-is i (omega arith) (omega (arith, may y ly)) ∙ cond-yes (decides-eq (count (on train i) n) (capacity i)) full
+      (least release train i n) 0 in
       omega (arith, least-bar, under-least y i ly (λ x lx e. o .beaten x y lx ly p (rw e c)))
 
   -- what a bar above something says
@@ -147,7 +149,8 @@ pub all-under-more : (release : ℕ → ℕ) (latest train bars : List ℕ) (j :
     → (eqb (at train j) 0 || r) ≡ true → AllUnder j release latest train bars → AllUnder (j + 1) release latest train bars
 all-under-more release latest train bars j {r} d passed h y l p = go (decided (decides-eq y j))
   where
-    own : (at train j ≡ 0) ⊎ Under (standing release j) (at train j) (at latest j) bars → 1 ≤ at train j → Under (standing release j) (at train j) (at latest j) bars
+    own : (at train j ≡ 0) ⊎ Under (standing release j) (at train j) (at latest j) bars → 1 ≤ at train j → Under (standing release j) (at train j)
+        (at latest j) bars
     own (inl e) k = absurd (omega arith)
     own (inr u) k = u
 

@@ -12,8 +12,6 @@ ghost use Rattle.numbers.specs.Counting.{at, nth};
 ghost use Rattle.numbers.specs.DecidesLaws.{Decides};
 ghost use Rattle.model.specs.Limits.{order-counts, train-counts, last-instant};
 ghost use Rattle.columns.specs.Columns.{UpTo};
-ghost use Rattle.riders.specs.Standing.{Lowest};
-ghost use Rattle.riders.specs.Riders.{Counted};
 ghost use Rattle.loading.specs.Orderly.{Orderly};
 ghost use Rattle.orderly.specs.Bars.{Room, Barred, Skip, Skips, Under, AllUnder};
 

@@ -6,7 +6,6 @@ use mathlib.Core.List.{List}
 use Prim.Native.Nat.{ℕ, zero, suc, _+_, _≤_, _<_, max, min}
 use native.Mathlib.Omega.{arith}
 use native.Mathlib.Numerals.{add-one}
-use lib.Dec.{eqb}
 use lib.ListN.{length, set, length-set, replicate, length-replicate, getD-replicate}
 use Rattle.numbers.specs.Counting.{at, count}
 use Rattle.numbers.specs.DecidesLaws.{Decides, decides-le, decides-eq, decided, test-true, test-false, cond-yes, cond-no}
@@ -107,7 +106,8 @@ module _ (n : ℕ) (latest before : List ℕ) (j : ℕ) (train riders : List ℕ
       go : (k : ℕ) → k < j + 1 → AtSet train j 0 k → at after k ≡ stays latest before k
       go k l (here u v) =
           ap (λ (t : List ℕ). at t k) is ∙ v
-          ∙ sym (cond-no (decides-le (at before k) (at latest k)) (λ h. omega (arith, ap (at latest) u, ap (at train) u, s .same k (omega arith))) (at before k) 0)
+          ∙ sym (cond-no (decides-le (at before k) (at latest k)) (λ h. omega (arith, ap (at latest) u, ap (at train) u, s .same k (omega arith)))
+          (at before k) 0)
       go k l (elsewhere u v) = ap (λ (t : List ℕ). at t k) is ∙ v ∙ s .done k (omega arith)
 
       behind : (k : ℕ) → j + 1 ≤ k → AtSet train j 0 k → at (set train j 0) k ≡ at before k

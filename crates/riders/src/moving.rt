@@ -4,7 +4,7 @@ ghost use mathlib.Core.Path.{_≡_};
 ghost use mathlib.Core.Bool.{cond};
 ghost use Prim.Native.Nat.{_<_, _≤_, max};
 ghost use lib.Dec.{eqb};
-ghost use lib.ListN.{length, set};
+ghost use lib.ListN.{set};
 ghost use Rattle.numbers.specs.Counting.{at};
 ghost use Rattle.model.specs.Limits.{order-counts, train-counts};
 ghost use Rattle.columns.specs.Columns.{UpTo};

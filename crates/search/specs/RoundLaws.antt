@@ -135,7 +135,8 @@ module _ (s : Sheet) (p r : Progress) (on : p .ended ≡ false) (counted : r .ro
       ))
 
   -- OR IT GOES THROUGH ALL STEPS
-  pub round-made : UpTo (s .trains) (s .orders) (p .latest) → plan .train ≡ loading s latest → times s (loading s latest) ≡ timed (plan .departure) (plan .arrival) (plan .window)
+  pub round-made : UpTo (s .trains) (s .orders) (p .latest) → plan .train ≡ loading s latest → times s (loading s latest) ≡ timed (plan .departure)
+      (plan .arrival) (plan .window)
       → Graded p r z (F (s .trains)) → Settled s p r F → Makes s p r
   unfolding depart
   round-made low loads runs graded settled =

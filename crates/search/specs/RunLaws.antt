@@ -1,6 +1,6 @@
 -- Rounds one after another, for the loops of the callers. Assumes nothing.
 use mathlib.Core.Path.{_≡_, refl, sym, ap, _∙_, subst}
-use mathlib.Core.Bool.{Bool, true, false, not}
+use mathlib.Core.Bool.{true, false}
 use mathlib.Core.List.{[]}
 use Prim.Native.Nat.{ℕ, _+_, _<_}
 use Rattle.numbers.specs.DecidesLaws.{one-outcome}

@@ -6,9 +6,9 @@ pub mod start;
 use model::limits::MOST_ORDERS;
 use model::limits::MOST_TRAINS;
 
-// Where a search stands between rounds: each order's latest train, and its train in the last round, from which the next loading begins; the last round's times,
-// and whether that plan was recorded (better than all before); the limit and the last arrival of the pair recorded last; how many rounds were made, and whether the
-// search has ended.
+// Where a search stands between rounds: each order's latest train, and its train in the last round, from which the next loading begins; the last round's
+// times, and whether that plan was recorded (better than all before); the limit and the last arrival of the pair recorded last; how many rounds were made,
+// and whether the search has ended.
 pub struct Progress {
     pub latest: [u8; MOST_ORDERS],
     pub train: [u8; MOST_ORDERS],

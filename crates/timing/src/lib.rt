@@ -9,7 +9,7 @@ use model::limits::LAST_INSTANT;
 use model::limits::MOST_ORDERS;
 use model::limits::MOST_TRAINS;
 ghost use mathlib.Core.Path.{_≡_};
-ghost use Prim.Native.Nat.{_≤_, max};
+ghost use Prim.Native.Nat.{_≤_};
 ghost use lib.ListN.{take};
 ghost use Rattle.numbers.specs.Counting.{at, nth, row};
 ghost use Rattle.model.specs.Memory.{windowsOf, sheetOf};

@@ -1,16 +1,15 @@
 -- `loading::load` meets its contract: the loop's invariant is that the trains above i are settled, and what is known of the others. Assumes nothing.
 use borrow.Author.Needs.{needs}
-use mathlib.Core.Path.{_≡_, refl, sym, ap, _∙_}
+use mathlib.Core.Path.{_≡_, refl, sym, _∙_}
 use mathlib.Core.Logic.{⊎-elim}
 use mathlib.Core.Bool.{false}
 use mathlib.Core.List.{List}
 use Prim.Native.Nat.{ℕ, _-_, _≤_, _<_}
 use native.Mathlib.Omega.{arith}
-use lib.ListN.{length, length-set}
 use Rattle.numbers.specs.Counting.{at, nth}
 use Rattle.columns.specs.Columns.{UpTo}
 use Rattle.loading.specs.ToLoad.{ToLoad}
-use Rattle.riders.specs.Standing.{standing, best, waited}
+use Rattle.riders.specs.Standing.{standing}
 use Rattle.loading.specs.Turns.{needed}
 use Rattle.riders.specs.Riders.{Counted}
 use Rattle.loading.specs.Stage.{Stage, Known, Unmoved}
@@ -52,7 +51,8 @@ loop-holds c =
       begins (a .n) (a .q) (at (a .release .now)) (nth (a .t4)) (a .latest .now) (a .t6) _ (p .begins) k (p .few-trains) (p .may-ride),
       known-first (a .n) (a .q) (at (a .release .now)) (nth (a .t4)) (a .latest .now) (a .t6) _ (p .begins) k (p .few-trains) (p .may-ride)
           (found c .survey .result .riders) (found c .survey .result .low) _ _ (found c .survey .ensures .0) (found c .survey .ensures .1)
-          (waits-found (a .n) (at (a .release .now)) (a .latest .now) (left c .leave-late .last .1 .1 .0) _ _ (c .before .before .last-waited-for .ensures) (c .greatest-outside .ensures)),
+          (waits-found (a .n) (at (a .release .now)) (a .latest .now) (left c .leave-late .last .1 .1 .0) _ _ (c .before .before .last-waited-for .ensures)
+          (c .greatest-outside .ensures)),
     )
 
 -- at train i
@@ -113,9 +113,11 @@ module _ (l : tie.At-loop Inv-loop μ-loop) where
       let (up, counts, stage, known) = l .loop .inv in (
         counts,
         stage-done n release capacity latest i pi (l .loop .train) stage
-            (skip-settled n release capacity latest held low (l .loop .top) (l .loop .challenger) (p .few-orders) i pi (omega (arith, p .few-trains)) (l .loop .train)
+            (skip-settled n release capacity latest held low (l .loop .top) (l .loop .challenger) (p .few-orders) i pi (omega (arith, p .few-trains))
+            (l .loop .train)
             (l .loop .riders) counts stage known idle),
-        known-next n release capacity latest held low (l .loop .top) (l .loop .challenger) i (l .loop .train) (l .loop .train) (l .loop .top) (l .loop .challenger)
+        known-next n release capacity latest held low (l .loop .top) (l .loop .challenger) i (l .loop .train) (l .loop .train) (l .loop .top)
+            (l .loop .challenger)
             (λ j k h b. refl) known (known .waits) (i - 1) (omega arith),
       )
 
@@ -134,7 +136,8 @@ next c =
     (⊎-elim
     (λ w. rw (w .6, w .7, w .8, w .9)
     (turned l pi _ _ _ _ (w .4 .ensures .0) (w .4 .ensures .1 .0) (w .4 .ensures .1 .1)
-    (nobody-waits (n l) (release l) (latest l) (w .4 .last .1 .1 .1 .1 .1 .1 .0) (w .4 .last .1 .1 .1 .1 .1 .1 .1 .0) (w .4 .ensures .1 .1) (omega (arith, w .5)))))
+    (nobody-waits (n l) (release l) (latest l) (w .4 .last .1 .1 .1 .1 .1 .1 .0) (w .4 .last .1 .1 .1 .1 .1 .1 .1 .0) (w .4 .ensures .1 .1)
+    (omega (arith, w .5)))))
     (λ w. rw (w .1, w .2, w .3, w .4) (passed l pi (sym (c .before .needs-turn .ensures) ∙ w .0 .left))))
     (c .if1 .came)
 
@@ -162,7 +165,8 @@ returns c =
     let p = s (l .before) .pre in
     let a = s (l .before) .args in
     let e : l .loop .i ≡ 0 = omega arith in
-    stage-loads (a .n) (a .q) (at (a .release .now)) (a .t4) (a .latest .now) (l .loop .train) (omega (arith, l .loop .inv .1 .places, p .few-orders)) (p .few-trains)
+    stage-loads (a .n) (a .q) (at (a .release .now)) (a .t4) (a .latest .now) (l .loop .train) (omega (arith, l .loop .inv .1 .places, p .few-orders))
+    (p .few-trains)
     (p .may-ride) (rw e at (l .loop .inv .2))
 
 pub load-spec : {M : Type 1} → statement M
@@ -178,6 +182,7 @@ load-spec =
     loop-holds (λ c. search needs) (λ c. omega (arith, low-train (c .before))) (λ c. omega (arith, low-train (c .before)))
     (λ c. omega (arith, few-places (c .before) (omega arith))) (λ c. search needs) (λ c. omega (arith, low-train (c .before)))
     (λ c. omega (arith, low-train (c .before))) (λ c. omega (arith, low-train (c .before))) (λ c. omega (arith, low-train (c .before)))
-    (λ c. omega (arith, low-train (c .before))) (λ c κs. search needs) (λ c. omega (arith, low-train (c .before .before .before))) settle-train-requires (λ c. search needs)
+    (λ c. omega (arith, low-train (c .before))) (λ c κs. search needs) (λ c. omega (arith, low-train (c .before .before .before))) settle-train-requires
+    (λ c. search needs)
     (λ c κs. t (turn (c .before .before)) .pre .few-orders) (λ c κs. let p = t (turn (c .before .before .before .before)) .pre in (p .few-orders, p .releases))
     (λ c. search needs) (λ c. search needs) loop-again returns)

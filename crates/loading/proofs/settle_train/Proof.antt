@@ -1,6 +1,6 @@
 -- `loading::settle_train` meets its contract: each turn keeps the stage, and whoever could still come stands lower after it. Assumes nothing.
 use borrow.Author.Needs.{needs}
-use mathlib.Core.Path.{_≡_, refl, sym, ap, _∙_}
+use mathlib.Core.Path.{_≡_, refl, sym}
 use mathlib.Core.Logic.{_⊎_, inl, inr}
 use mathlib.Core.Bool.{true, false}
 use mathlib.Core.List.{List}
@@ -61,7 +61,8 @@ module _ (c : tie.After-take-turn Inv-loop μ-loop) where
   abbrev after : List ℕ
   after = c .take-turn .last .1 .1 .1 .1 .1 .0
 
-  moves : c .take-turn .result ≡ true → Moved (n here) (release here) (latest here) (s here .pre .0 .0 .few) (s here .pre .0 .0 .releases) (i here) (train here) (capacity here) (s here .pre .0 .1) (s here .pre .0 .2) (here .loop .inv .0 .places) (here .loop .inv .2) _ (here .loop .inv .3) after
+  moves : c .take-turn .result ≡ true → Moved (n here) (release here) (latest here) (s here .pre .0 .0 .few) (s here .pre .0 .0 .releases) (i here)
+      (train here) (capacity here) (s here .pre .0 .1) (s here .pre .0 .2) (here .loop .inv .0 .places) (here .loop .inv .2) _ (here .loop .inv .3) after
   moves e =
       let p = s here .pre .0 in
       turn-moves (n here) (release here) (latest here) (p .0 .few) (p .0 .releases) (i here) (train here) (capacity here) (p .1) (p .2)
@@ -94,8 +95,14 @@ still-waits c j k p (inr full) =
 loop-again : tie.Need-loop-again Inv-loop μ-loop
 loop-again c =
     let l = here (c .before) in
-    let m = moves (c .before) (by-now _ (c .if2 .left)) in
-    (c .before .take-turn .ensures .1, unmoved-then (n l) (i l) (s l .args .train .now) (train l) (after (c .before)) (l .loop .inv .1) (m .unmoved), m .stage, l .loop .inv .3, λ j k u p. still-waits c j k p (m .without j k u))
+    let m = moves (c .before) (by-now _ (c .if2 .left)) in (
+      c .before .take-turn .ensures .1,
+      unmoved-then (n l) (i l) (s l .args .train .now) (train l) (after (c .before)) (l .loop .inv .1)
+          (m .unmoved),
+      m .stage,
+      l .loop .inv .3,
+      λ j k u p. still-waits c j k p (m .without j k u),
+    )
 
 loop-less : tie.Need-loop-less Inv-loop μ-loop
 loop-less c = moves (c .before) (by-now _ (c .if2 .left)) .fell
@@ -139,5 +146,6 @@ settle-train-spec =
     tie.close
     (tie.spec
     Inv-loop μ-loop (λ c κs. (c .pre .0 .1, c .pre .0 .2)) (λ c. omega (arith, c .of-train .ensures, c .before .pre .0 .3))
-    (λ c. (c .before .pre .0 .0 .counts, λ j l p b. refl, c .before .pre .1 .0, sym (c .of-train .ensures), λ j k u p. inl (c .before .pre .1 .1 j k u p))) (λ c. search needs) (λ c. search needs)
+    (λ c. (c .before .pre .0 .0 .counts, λ j l p b. refl, c .before .pre .1 .0, sym (c .of-train .ensures), λ j k u p. inl (c .before .pre .1 .1 j k u p)))
+    (λ c. search needs) (λ c. search needs)
     take-turn-requires loop-less loop-again returns returns-2)

@@ -1,7 +1,6 @@
 -- `loading::take_turn` meets its contract: its four ends are the four cases of a turn. Assumes nothing.
 use borrow.Author.Needs.{needs}
-use mathlib.Core.Path.{_≡_, refl, sym, ap, _∙_, subst}
-use mathlib.Core.Bool.{true, false}
+use mathlib.Core.Path.{_≡_, sym, ap, _∙_}
 use mathlib.Core.List.{List}
 use Prim.Native.Nat.{ℕ, _≤_, _<_, _%_}
 use native.Mathlib.Omega.{arith}
@@ -9,9 +8,9 @@ use lib.ListN.{set}
 use lib.Seq.{getD-set-other}
 use Rattle.numbers.specs.Counting.{at, count}
 use Rattle.rounds.specs.LoadingLaws.{on}
-use Rattle.riders.specs.Standing.{standing, place, beyond, best, least}
+use Rattle.riders.specs.Standing.{place, best, least}
 use Rattle.riders.specs.Riders.{Counted}
-use Rattle.loading.specs.Turns.{Turn, none-comes, comes-in, holds-out, takes-over}
+use Rattle.loading.specs.Turns.{none-comes, comes-in, holds-out, takes-over}
 use Rattle.loading.specs.TurnLaws.{Comer, comer, Leaver, leaver}
 use Rattle.loading.proofs.take_turn.Statement.{statement}
 use Rattle.loading.proofs.take_turn.Tie as tie
@@ -116,7 +115,8 @@ returns-4 c =
     let z = p .place-of3 .ensures ∙ its-place g (omega (arith, beats e)) in
     let w = q .place-of2 .ensures ∙ ap place (e .before .least-on .ensures) in (
       rw (c .move-order3 .ensures .0, out .move-order2 .ensures .0, z, w)
-          (takes-over (omega (arith, rides g, e .before .before .before .if1)) (omega (arith, beats e, g .greatest-outside .ensures, e .before .least-on .ensures))),
+          (takes-over (omega (arith, rides g, e .before .before .before .if1))
+          (omega (arith, beats e, g .greatest-outside .ensures, e .before .least-on .ensures))),
       c .move-order3 .ensures .1,
     )
 
@@ -138,13 +138,17 @@ take-turn-spec =
     (λ c κs. let p = c .before .before in asked-in (p .before .before .before .before) (omega arith) _ (p .place-of .ensures))
     returns-2
     (λ c κs. search needs)
-    (λ c. let g = c .before .before .before .before .before in
-    (holds-out (omega (arith, rides g, c .before .before .before .if1)) (omega (arith, g .greatest-outside .ensures, c .before .least-on .ensures, c .if3)), start g .pre .0 .counts))
+    (λ c. let g = c .before .before .before .before .before in (
+      holds-out (omega (arith, rides g, c .before .before .before .if1))
+          (omega (arith, g .greatest-outside .ensures, c .before .least-on .ensures, c .if3)),
+      start g .pre .0 .counts,
+    ))
     (λ c κs. is-place-too c)
     (λ c κs. let p = c .before .before in asked-out (p .before) _ (p .place-of2 .ensures))
     (λ c κs. let e = c .before .before .before .before in is-place (found e) (omega (arith, beats e)))
     (λ c κs. let p = c .before .before in
     let out = p .before in
     let q = out .before .before .before in
-    asked-after (q .before) _ _ _ (p .place-of3 .ensures) (out .move-order2 .ensures .0 ∙ ap (λ (j : ℕ). set (train (found (q .before))) j 0) (q .place-of2 .ensures)) (out .move-order2 .ensures .1))
+    asked-after (q .before) _ _ _ (p .place-of3 .ensures) (out .move-order2 .ensures .0 ∙ ap (λ (j : ℕ). set (train (found (q .before))) j 0)
+    (q .place-of2 .ensures)) (out .move-order2 .ensures .1))
     returns-4)

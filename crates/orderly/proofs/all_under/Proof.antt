@@ -1,7 +1,6 @@
 -- `orderly::all_under` meets its contract: the loop's invariant is that the first j orders stand below the bars. Assumes nothing.
 use borrow.Author.Needs.{needs}
-use mathlib.Core.Path.{_≡_, refl, sym}
-use mathlib.Core.Bool.{Bool, true, false, not}
+use mathlib.Core.Path.{_≡_}
 use mathlib.Core.List.{List}
 use Prim.Native.Nat.{ℕ, _-_, _≤_}
 use native.Mathlib.Omega.{arith}
@@ -55,7 +54,8 @@ all-under-spec =
     tie.close
     (tie.spec
     Inv-loop μ-loop (λ c. (omega arith, λ y l. absurd (omega arith)))
-    (λ c κs. let l = c .before in (omega (arith, l .before .pre .0 .0), l .before .pre .0 .1 _ (omega arith))) (λ c. search needs) (λ c. search needs) (λ c. search needs)
+    (λ c κs. let l = c .before in (omega (arith, l .before .pre .0 .0), l .before .pre .0 .1 _ (omega arith))) (λ c. search needs) (λ c. search needs)
+    (λ c. search needs)
     (λ c κs. let l = c .before .before .before .before .before in
     let p = l .before .pre in
     let (q, few, low, skips) = p .1 in

@@ -1,11 +1,10 @@
 -- `orderly::find_bars` meets its contract: the loop's invariant is that the trains above q have their bars. Assumes nothing.
 use borrow.Author.Needs.{needs}
 use mathlib.Core.Path.{_≡_, _∙_}
-use Prim.Native.Nat.{ℕ, _≤_, _<_}
+use Prim.Native.Nat.{_≤_}
 use native.Mathlib.Omega.{arith}
 use lib.ListN.{length, length-set}
-use Rattle.numbers.specs.Counting.{at, nth}
-use Rattle.orderly.specs.Bars.{bar}
+use Rattle.numbers.specs.Counting.{nth}
 use Rattle.orderly.specs.BarLaws.{BarredFrom, barred-more}
 use Rattle.orderly.proofs.find_bars.Statement.{statement}
 use Rattle.orderly.proofs.find_bars.Tie as tie
@@ -22,7 +21,8 @@ loop-again c =
     let a = l .before .args in (
       omega arith,
       length-set (l .loop .bars) (l .loop .q) (c .one-of .result) ∙ l .loop .inv .1,
-      barred-more (a .q) (nth (a .capacity .now)) (a .t3) (a .low .now) (l .loop .bars) (l .loop .q) (c .one-of .result) (l .loop .inv .1) (omega (arith, l .before .pre))
+      barred-more (a .q) (nth (a .capacity .now)) (a .t3) (a .low .now) (l .loop .bars) (l .loop .q) (c .one-of .result) (l .loop .inv .1)
+          (omega (arith, l .before .pre))
           (omega arith) (c .one-of .ensures) (l .loop .inv .2),
     )
 

@@ -41,6 +41,7 @@ pub find-skips-spec : {M : Type 1} → statement M
 find-skips-spec =
     tie.close
     (tie.spec
-    Inv-loop μ-loop (λ c. omega (arith, c .pre .1)) (λ c. omega (arith, c .pre .1)) (λ c. search needs) loop-holds (λ c κs. let l = c .before .before in (l .loop .inv .0, l .before .pre .1, l .loop .inv .2)) (λ c. search needs)
+    Inv-loop μ-loop (λ c. omega (arith, c .pre .1)) (λ c. omega (arith, c .pre .1)) (λ c. search needs) loop-holds
+    (λ c κs. let l = c .before .before in (l .loop .inv .0, l .before .pre .1, l .loop .inv .2)) (λ c. search needs)
     (λ c. let l = c .before .before .before in omega (arith, l .loop .inv .0, l .before .pre .1))
     (λ c. search needs) (λ c. search needs) loop-again returns)

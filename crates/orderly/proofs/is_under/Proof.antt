@@ -1,6 +1,6 @@
 -- `orderly::is_under` meets its contract: the loop's invariant is that the standing is below the bars before i. Assumes nothing.
 use borrow.Author.Needs.{needs}
-use Prim.Native.Nat.{ℕ, _-_, _≤_, _<_}
+use Prim.Native.Nat.{ℕ, _-_, _<_}
 use native.Mathlib.Omega.{arith}
 use Rattle.numbers.specs.Counting.{at}
 use Rattle.orderly.specs.Bars.{Skip}
@@ -39,6 +39,7 @@ is-under-spec =
     (λ c. omega (arith, c .before .before .pre .0 .1))
     (λ c. let l = c .before .before .before in
     record { sound = λ x. absurd x; complete = λ h. omega (arith, c .if1, h (l .loop .i) (l .loop .inv .0) (omega arith)) })
-    (λ c. search needs) (λ c. omega (arith, c .before .before .before .before .pre .0 .1)) (λ c. let e = c .before in omega (arith, skip e .ahead, e .before .before .before .before .pre .0 .1))
+    (λ c. search needs) (λ c. omega (arith, c .before .before .before .before .pre .0 .1))
+    (λ c. let e = c .before in omega (arith, skip e .ahead, e .before .before .before .before .pre .0 .1))
     (λ c. let e = c .before in (omega (arith, skip e .ahead, l e .loop .inv .0), under e))
     (λ c. record { sound = λ x k a b. c .before .loop .inv .1 k a (omega arith); complete = λ x. tt }))

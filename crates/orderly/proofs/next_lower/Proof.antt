@@ -24,14 +24,16 @@ module _ (c : tie.Else1 Inv-loop μ-loop) where
 
   next-skip : Skip (s .args .i) (s .args .q) (s .args .bars .now) (at (s .args .next .now) (l .loop .m))
   next-skip =
-      skip-on (s .args .i) (s .args .q) (s .args .bars .now) (s .args .next .now) (l .loop .m) (l .loop .inv) (omega (arith, c .before .before .loop-test)) (s .pre .2)
+      skip-on (s .args .i) (s .args .q) (s .args .bars .now) (s .args .next .now) (l .loop .m) (l .loop .inv) (omega (arith, c .before .before .loop-test))
+      (s .pre .2)
       (omega (arith, c .if1))
 
 pub next-lower-spec : {M : Type 1} → statement M
 next-lower-spec =
     tie.close
     (tie.spec
-    Inv-loop μ-loop (λ c. search needs) (λ c. omega (arith, c .pre)) (λ c. omega (arith, c .before .pre)) (λ c. skip-first _ _ _ (omega (arith, c .before .pre .0)))
+    Inv-loop μ-loop (λ c. search needs) (λ c. omega (arith, c .pre)) (λ c. omega (arith, c .before .pre))
+    (λ c. skip-first _ _ _ (omega (arith, c .before .pre .0)))
     (λ c. search needs) (λ c. search needs) (λ c. omega (arith, c .before .before .before .pre .1)) (λ c. search needs)
     (λ c. omega (arith, c .before .before .before .before .before .pre .1))
     (λ c. let e = c .before in omega (arith, s e .pre .2 (l e .loop .m) (l e .loop .inv .ahead) (omega arith) .ahead, l e .loop .inv .most, s e .pre .1))

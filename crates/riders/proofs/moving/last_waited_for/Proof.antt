@@ -31,5 +31,6 @@ pub last-waited-for-spec : {M : Type 1} → statement M
 last-waited-for-spec =
     tie.close
     (tie.spec
-    Inv-loop μ-loop (λ c. (omega arith, greatest-start _ _)) (λ c. search needs) (λ c. search needs) (λ c κs. search needs) (λ c. search needs) (λ c. search needs)
+    Inv-loop μ-loop (λ c. (omega arith, greatest-start _ _)) (λ c. search needs) (λ c. search needs) (λ c κs. search needs) (λ c. search needs)
+    (λ c. search needs)
     loop-again returns)

@@ -1,8 +1,8 @@
 -- `riders::moving::leave_late` meets its contract: the loop's invariant is that of the first j orders the late ones have lost their trains. Assumes nothing.
 use borrow.Author.Needs.{needs}
-use mathlib.Core.Path.{_≡_, refl, sym, ap, _∙_}
-use mathlib.Core.Logic.{_⊎_, inl, inr, ⊎-elim}
-use Prim.Native.Nat.{ℕ, _-_, _≤_, _<_}
+use mathlib.Core.Path.{_≡_, refl}
+use mathlib.Core.Logic.{_⊎_, ⊎-elim}
+use Prim.Native.Nat.{_-_, _≤_, _<_}
 use native.Mathlib.Omega.{arith}
 use Rattle.numbers.specs.Counting.{at}
 use Rattle.riders.specs.StepLaws.{left-late, left-in-time}
@@ -46,5 +46,6 @@ pub leave-late-spec : {M : Type 1} → statement M
 leave-late-spec =
     tie.close
     (tie.spec
-    Inv-loop μ-loop (λ c. (omega arith, record { done = λ j l. absurd (omega arith); same = λ k l. refl; counts = c .pre .2 })) (λ c. search needs) (λ c. search needs) move-order-requires (λ c. search needs)
+    Inv-loop μ-loop (λ c. (omega arith, record { done = λ j l. absurd (omega arith); same = λ k l. refl; counts = c .pre .2 })) (λ c. search needs)
+    (λ c. search needs) move-order-requires (λ c. search needs)
     (λ c. search needs) loop-again returns)

@@ -21,7 +21,8 @@ module _ (s : tie.Start) where
   counts : Counted (s .args .n) (set (s .args .train .now) (s .args .j) (s .args .i)) (set less (s .args .i) (at less (s .args .i) + 1))
   counts =
       let p = s .pre .0 in
-      counted-moved (s .args .n) (s .args .train .now) (s .args .riders .now) (s .pre .1 .1) (s .args .j) (p .1) (p .0) (s .args .i) (p .2) (p .3) (s .pre .1 .0)
+      counted-moved (s .args .n) (s .args .train .now) (s .args .riders .now) (s .pre .1 .1) (s .args .j) (p .1) (p .0) (s .args .i) (p .2) (p .3)
+      (s .pre .1 .0)
 
   few : at less (s .args .i) + 1 ≤ 200
   few =
@@ -32,5 +33,7 @@ pub move-order-spec : {M : Type 1} → statement M
 move-order-spec =
     tie.close
     (tie.spec
-    (λ c. search needs) (λ c. search needs) (λ c. search needs) (λ c. let s = c .before .before in rides-one _ _ _ (s .pre .1 .1) _ (s .pre .0 .1) (s .pre .0 .3))
-    (λ c. search needs) (λ c. search needs) (λ c. omega (arith, few (c .before .before .before))) (λ c. search needs) (λ c. search needs) (λ c. (refl, counts (c .before .before .before))))
+    (λ c. search needs) (λ c. search needs) (λ c. search needs) (λ c. let s = c .before .before in rides-one _ _ _ (s .pre .1 .1) _ (s .pre .0 .1)
+    (s .pre .0 .3))
+    (λ c. search needs) (λ c. search needs) (λ c. omega (arith, few (c .before .before .before))) (λ c. search needs) (λ c. search needs)
+    (λ c. (refl, counts (c .before .before .before))))

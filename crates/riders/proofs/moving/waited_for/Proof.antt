@@ -21,4 +21,5 @@ pub waited-for-spec : {M : Type 1} → statement M
 waited-for-spec =
     tie.close
     (tie.spec (λ c. tt) (λ c. fits (c .args .latest) (eqb (c .args .train) 0) (c .fits .latest))
-    (λ c. omega (arith, own (c .before .args .latest) (eqb (c .before .args .train) 0))) (λ c. omega (arith, own (c .before .args .latest) (eqb (c .before .args .train) 0))))
+    (λ c. omega (arith, own (c .before .args .latest) (eqb (c .before .args .train) 0)))
+    (λ c. omega (arith, own (c .before .args .latest) (eqb (c .before .args .train) 0))))

@@ -38,5 +38,6 @@ pub least-on-spec : {M : Type 1} → statement M
 least-on-spec =
     tie.close
     (tie.spec
-    Inv-loop μ-loop (λ c. (omega arith, least-start _ _)) (λ c κs. (omega arith, c .before .before .pre .1 _ (omega arith))) (λ c. search needs) (λ c κs. search needs)
+    Inv-loop μ-loop (λ c. (omega arith, least-start _ _)) (λ c κs. (omega arith, c .before .before .pre .1 _ (omega arith))) (λ c. search needs)
+    (λ c κs. search needs)
     (λ c κs. search needs) (λ c. search needs) (λ c. search needs) loop-again returns)
