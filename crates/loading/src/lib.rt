@@ -125,20 +125,14 @@ pub fn load(
     let mut challenger = greatest_outside(n, 1, release, latest, &train);
     let mut i = q;
     while i > 0 {
+        let m = i as u8;
         let places = capacity[i - 1] as u8;
-        if needs_turn(
-            riders[0],
-            riders[i],
-            places,
-            held[i],
-            low[i],
-            top,
-            challenger,
-            i as u8,
-        ) {
+        let waiting = riders[0];
+        let now = riders[i];
+        if needs_turn(waiting, now, places, held[i], low[i], top, challenger, m) {
             settle_train(
                 n,
-                i as u8,
+                m,
                 top,
                 &capacity,
                 release,
