@@ -1,6 +1,6 @@
 // Checking a foreign plan. The rows of order and train are a lent list of records, laid out as in C.
-use exported::checking::Check;
-use exported::checking::check_of;
+use checked::Check;
+use checked::check_of;
 use foreign::Given;
 use foreign::gather;
 use model::Row;
@@ -8,7 +8,7 @@ use model::TimetableSheet;
 use model::WindowSheet;
 ghost use Rattle.model.specs.Memory.{windowSheet, timetableSheet};
 ghost use Rattle.checker.specs.Checking.{CheckedOf};
-ghost use Rattle.exported.specs.ExportedChecking.{ExportedCheck};
+ghost use Rattle.checked.specs.ExportedChecking.{ExportedCheck};
 
 // Checks a plan whose rows are gathered, of the window form.
 fn check_gathered_windows(

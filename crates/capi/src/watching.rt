@@ -1,15 +1,15 @@
 // A search that is watched: started, moved by one round a call, and looked at between rounds.
-use exported::watching::Round;
-use exported::watching::Start;
-use exported::watching::round_of;
-use exported::watching::start_of;
 use model::TimetableSheet;
 use model::WindowSheet;
 use watch::State;
+use watched::Round;
+use watched::Start;
+use watched::round_of;
+use watched::start_of;
 ghost use Rattle.model.specs.Memory.{windowSheet, timetableSheet};
 ghost use Rattle.rounds.specs.ByRound.{all-areas};
 ghost use Rattle.watch.specs.Calls.{LookCall};
-ghost use Rattle.exported.specs.ExportedWatching.{ExportedStart, ExportedRound};
+ghost use Rattle.watched.specs.ExportedWatching.{ExportedStart, ExportedRound};
 
 // Starts a search on a sheet of the window form.
 #[no_mangle]

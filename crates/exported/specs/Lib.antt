@@ -4,7 +4,3 @@ pub mod ExportedBound
 pub mod ExportedBoundLaws
 pub mod ExportedPlanning
 pub mod ExportedPlanningLaws
-pub mod ExportedChecking
-pub mod ExportedCheckingLaws
-pub mod ExportedWatching
-pub mod ExportedWatchingLaws

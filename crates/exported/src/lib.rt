@@ -1,8 +1,6 @@
-// What the exported calls return: structs laid out as in C, in document 01's numbers. Here a cause, a text as read, a listing and a choice; in `bounding`,
-// `checking` and `watching` what those calls return. `capi` has the calls.
+// What the exported calls return: structs laid out as in C, in document 01's numbers. Here a cause, a text as read, a listing and a choice, and in `bounding` a
+// figure; `checked` and `watched` have what those calls return, and `capi` the calls.
 pub mod bounding;
-pub mod checking;
-pub mod watching;
 
 use model::Admission;
 use model::ChoiceReply;

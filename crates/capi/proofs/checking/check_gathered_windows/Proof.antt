@@ -1,7 +1,7 @@
 -- `capi::checking::check_gathered_windows` meets its contract: it tells the library's reply, whatever rows were gathered. Assumes nothing.
 use borrow.Author.Needs.{needs}
 use Rattle.model.specs.Memory.{windowSheet}
-use Rattle.exported.specs.ExportedCheckingLaws.{exported-check}
+use Rattle.checked.specs.ExportedCheckingLaws.{exported-check}
 use Rattle.capi.proofs.checking.check_gathered_windows.Statement.{statement}
 use Rattle.capi.proofs.checking.check_gathered_windows.Tie as tie
 

@@ -6,9 +6,9 @@ use Rattle.model.specs.Memory.{timetableSheet}
 use Rattle.model.proofs.TimetableSheet as S
 use Rattle.model.proofs.TimetableSheet.Laws as S′
 use Rattle.foreign.proofs.RowsCall.{proved}
-use Rattle.exported.specs.ExportedChecking.{ExportedCheck}
-use Rattle.exported.proofs.checking.Check as R
-use Rattle.exported.proofs.checking.Check.Laws as R′
+use Rattle.checked.specs.ExportedChecking.{ExportedCheck}
+use Rattle.checked.proofs.Check as R
+use Rattle.checked.proofs.Check.Laws as R′
 use Rattle.capi.proofs.checking.check_gathered_timetable.Symbol as callee
 use Rattle.capi.proofs.checking.check_gathered_timetable.Met.{met}
 use Rattle.capi.proofs.checking.joshkamber_check_timetable.Key.{name}

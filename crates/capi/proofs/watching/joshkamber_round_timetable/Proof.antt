@@ -1,7 +1,7 @@
 -- `joshkamber_round_timetable` meets its contract: it tells what the library gives. Assumes nothing.
 use borrow.Author.Needs.{needs}
 use Rattle.model.specs.Memory.{timetableSheet}
-use Rattle.exported.specs.ExportedWatchingLaws.{exported-round}
+use Rattle.watched.specs.ExportedWatchingLaws.{exported-round}
 use Rattle.capi.proofs.watching.joshkamber_round_timetable.Statement.{statement}
 use Rattle.capi.proofs.watching.joshkamber_round_timetable.Tie as tie
 

@@ -1,7 +1,7 @@
 -- `joshkamber_round_windows` meets its contract: it tells what the library gives. Assumes nothing.
 use borrow.Author.Needs.{needs}
 use Rattle.model.specs.Memory.{windowSheet}
-use Rattle.exported.specs.ExportedWatchingLaws.{exported-round}
+use Rattle.watched.specs.ExportedWatchingLaws.{exported-round}
 use Rattle.capi.proofs.watching.joshkamber_round_windows.Statement.{statement}
 use Rattle.capi.proofs.watching.joshkamber_round_windows.Tie as tie
 

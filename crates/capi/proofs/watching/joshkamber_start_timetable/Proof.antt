@@ -1,7 +1,7 @@
 -- `joshkamber_start_timetable` meets its contract: it tells what the library gives. Assumes nothing.
 use borrow.Author.Needs.{needs}
 use Rattle.model.specs.Memory.{timetableSheet}
-use Rattle.exported.specs.ExportedWatchingLaws.{exported-start}
+use Rattle.watched.specs.ExportedWatchingLaws.{exported-start}
 use Rattle.capi.proofs.watching.joshkamber_start_timetable.Statement.{statement}
 use Rattle.capi.proofs.watching.joshkamber_start_timetable.Tie as tie
 

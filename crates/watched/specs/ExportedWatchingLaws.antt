@@ -16,11 +16,11 @@ use Rattle.watch.specs.Calls.{StartCall, RoundCall}
 use Rattle.watch.specs.declared.State.{State}
 use Rattle.watch.specs.declared.Started.{Started}
 use Rattle.watch.specs.declared.Moved.{Moved}
 use Rattle.exported.specs.Exported.{causeIn}
 use Rattle.exported.specs.ExportedLaws.{numbered}
-use Rattle.exported.specs.ExportedWatching.{startOf, round-told, roundOf, ExportedStart, ExportedRound}
-use Rattle.exported.specs.declared.watching.Start.{Start}
-use Rattle.exported.specs.declared.watching.Round.{Round}
+use Rattle.watched.specs.ExportedWatching.{startOf, round-told, roundOf, ExportedStart, ExportedRound}
+use Rattle.watched.specs.declared.Start.{Start}
+use Rattle.watched.specs.declared.Round.{Round}
 
 -- ---- a start
 

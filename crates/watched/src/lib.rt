@@ -1,13 +1,13 @@
 // What starting a search and moving it by one round return.
-use crate::Cause;
-use crate::cause_in;
-use crate::cause_of;
+use exported::Cause;
+use exported::cause_in;
+use exported::cause_of;
 use model::RoundReply;
 use watch::Moved;
 use watch::Started;
 use watch::State;
 ghost use mathlib.Core.Path.{_≡_};
-ghost use Rattle.exported.specs.ExportedWatching.{startOf, roundOf};
+ghost use Rattle.watched.specs.ExportedWatching.{startOf, roundOf};
 
 // What a start gives: the state, or the cause beside noughts.
 #[repr(C)]

@@ -2,8 +2,8 @@
 use borrow.Author.Needs.{needs}
 use mir.Facts.{toZ-ofZ}
 use mir.Syntax.{w64}
-use Rattle.exported.proofs.checking.check_of.Statement.{statement}
-use Rattle.exported.proofs.checking.check_of.Tie as tie
+use Rattle.checked.proofs.check_of.Statement.{statement}
+use Rattle.checked.proofs.check_of.Tie as tie
 
 pub check-of-spec : {M : Type 1} → statement M
 check-of-spec =

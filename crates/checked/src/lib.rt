@@ -1,9 +1,9 @@
 // What checking a plan returns.
-use crate::Cause;
-use crate::cause_of;
+use exported::Cause;
+use exported::cause_of;
 use model::CheckReply;
 ghost use mathlib.Core.Path.{_≡_};
-ghost use Rattle.exported.specs.ExportedChecking.{checkOf};
+ghost use Rattle.checked.specs.ExportedChecking.{checkOf};
 
 // What checking a plan gives: its pair, last arrival and worst weighted lateness, whether that pair is listed, how many pairs are listed and how many rounds
 // were made; or the cause beside noughts.

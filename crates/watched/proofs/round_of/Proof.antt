@@ -1,8 +1,8 @@
 -- `round_of` meets its contract: the next state beside the reply's numbers, or its cause. Assumes nothing.
 use borrow.Author.Needs.{needs}
 use mathlib.Core.Path.{refl}
-use Rattle.exported.proofs.watching.round_of.Statement.{statement}
-use Rattle.exported.proofs.watching.round_of.Tie as tie
+use Rattle.watched.proofs.round_of.Statement.{statement}
+use Rattle.watched.proofs.round_of.Tie as tie
 
 pub round-of-spec : {M : Type 1} → statement M
 round-of-spec =

@@ -11,9 +11,9 @@ use Rattle.model.specs.declared.Row.{Row}
 use Rattle.model.specs.declared.CheckReply.{CheckReply}
 use Rattle.model.specs.declared.CheckReply.the-variants as checking
 use Rattle.checker.specs.Checking.{SaysYes, CheckingCall}
 use Rattle.exported.specs.ExportedLaws.{numbered}
-use Rattle.exported.specs.ExportedChecking.{checkOf, pair-checked, ExportedCheck}
-use Rattle.exported.specs.declared.checking.Check.{Check}
+use Rattle.checked.specs.ExportedChecking.{checkOf, pair-checked, ExportedCheck}
+use Rattle.checked.specs.declared.Check.{Check}
 
 -- the cause of a reply
 check-cause : (x : CheckReply) → checkOf x .cause ≡ record { number = numberOf (of-check x); returned = returnedOf (of-check x) }

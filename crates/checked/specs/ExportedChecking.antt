@@ -20,8 +20,8 @@ use Rattle.rounds.specs.Checking.{check-to, check-reply}
 use Rattle.front.specs.Front.{Front}
 use Rattle.planner.specs.InAreas.{pairs-in}
 use Rattle.checker.specs.Checking.{IsSchedule, CheckingCall}
 use Rattle.exported.specs.Exported.{no-cause, causeOf}
-use Rattle.exported.specs.declared.checking.Check.{Check}
+use Rattle.checked.specs.declared.Check.{Check}
 
 -- a checking call's reply
 abbrev pub checkOf : CheckReply → Check

@@ -17,9 +17,9 @@ use Rattle.watch.specs.Calls.{StartCall, RoundCall}
 use Rattle.watch.specs.declared.State.{State}
 use Rattle.watch.specs.declared.Started.{Started}
 use Rattle.watch.specs.declared.Moved.{Moved}
 use Rattle.exported.specs.Exported.{no-cause, causeOf, causeIn}
-use Rattle.exported.specs.declared.watching.Start.{Start}
-use Rattle.exported.specs.declared.watching.Round.{Round}
+use Rattle.watched.specs.declared.Start.{Start}
+use Rattle.watched.specs.declared.Round.{Round}
 
 -- ---- a start
 

@@ -1,0 +1,2 @@
+pub mod ExportedChecking
+pub mod ExportedCheckingLaws

@@ -1,0 +1,2 @@
+pub mod ExportedWatching
+pub mod ExportedWatchingLaws
