@@ -138,7 +138,7 @@ next c =
     (turned l pi _ _ _ _ (w .4 .ensures .0) (w .4 .ensures .1 .0) (w .4 .ensures .1 .1)
     (nobody-waits (n l) (release l) (latest l) (w .4 .last .1 .1 .1 .1 .1 .1 .0) (w .4 .last .1 .1 .1 .1 .1 .1 .1 .0) (w .4 .ensures .1 .1)
     (omega (arith, w .5)))))
-    (λ w. rw (w .1, w .2, w .3, w .4) (passed l pi (sym (c .before .needs-turn .ensures) ∙ w .0 .left))))
+    (λ w. rw (w .1, w .2, w .3, w .4) (passed l pi (rw (c .before .needs-turn .ensures) at (w .0 .left)))))
     (c .if1 .came)
 
 loop-again : tie.Need-loop-again Inv-loop μ-loop

@@ -83,9 +83,12 @@ module _ (c : tie.Else3) where
   is-place-too : 1 ≤ inside % 256
   is-place-too = omega (arith, c .before .least-on .ensures, leaving .is, leaving .among, start found .pre .0 .few)
 
+  its-place-too : place inside ≡ place (least (release found) (train found) (i found) (n found))
+  its-place-too = ap place (c .before .least-on .ensures)
+
   asked-out : (j : ℕ) → j ≡ place inside → Asked found j 0 (train found) (start found .args .riders .now)
   asked-out j e =
-      let z : j ≡ place (least (release found) (train found) (i found) (n found)) = e ∙ ap place (c .before .least-on .ensures) in
+      let z : j ≡ place (least (release found) (train found) (i found) (n found)) = e ∙ its-place-too in
       rw z (
         (start found .pre .0 .few, leaving .among, omega arith, omega (arith, leaving .rides, start found .pre .2)),
         (λ u. omega (arith, leaving .rides, start found .pre .1), start found .pre .0 .counts),
@@ -98,8 +101,7 @@ module _ (c : tie.Else3) where
       let some : 0 < outside found = omega (arith, beats) in
       let d = incomer found some in
       let z : j ≡ place (best (release found) (latest found) (train found) (i found) (n found)) = e ∙ its-place found some in
-      let w : place inside ≡ place (least (release found) (train found) (i found) (n found)) = ap place (c .before .least-on .ensures) in
-      let apart : ¬ (j ≡ place inside) = λ u. omega (arith, d .could-come .0, leaving .rides, ap (at (train found)) (sym z ∙ u ∙ w)) in
+      let apart : ¬ (j ≡ place inside) = λ u. omega (arith, d .could-come .0, leaving .rides, ap (at (train found)) (sym z ∙ u ∙ its-place-too)) in
       let same : at left j ≡ at (train found) j =
       ap (λ (t : List ℕ). at t j) is ∙ getD-set-other (train found) (place inside) j 0 0 apart in
       let low : at (train found) j < i found = rw z (d .could-come .0) in
@@ -113,7 +115,7 @@ returns-4 c =
     let e = q .before in
     let g = found e in
     let z = p .place-of3 .ensures ∙ its-place g (omega (arith, beats e)) in
-    let w = q .place-of2 .ensures ∙ ap place (e .before .least-on .ensures) in (
+    let w = q .place-of2 .ensures ∙ its-place-too e in (
       rw (c .move-order3 .ensures .0, out .move-order2 .ensures .0, z, w)
           (takes-over (omega (arith, rides g, e .before .before .before .if1))
           (omega (arith, beats e, g .greatest-outside .ensures, e .before .least-on .ensures))),
