@@ -20,10 +20,9 @@ pub fn fits(progress: Progress, sheet: Sheet) -> bool
     if !none_above(n, &latest, q) {
         return false;
     }
-    let release = sheet.release;
     let capacity = sheet.capacity;
     let train = progress.train;
-    let orderly = are_orderly(n, q, &release, &capacity, &latest, &train);
+    let orderly = are_orderly(n, q, &sheet.release, &capacity, &latest, &train);
     let crowded = is_crowded(n, q, capacity, latest);
     let most = bound::figure(sheet);
     orderly & !crowded & (progress.rounds < most)

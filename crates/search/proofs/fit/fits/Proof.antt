@@ -14,7 +14,7 @@ module _ (c : tie.Else1) where
   abbrev s : tie.Start
   s = c .before .before .before .before
 
-  low : UpTo (s .args .sheet .«train_count») (s .args .sheet .«order_count») (s .args .progress .latest)
+  low : UpTo (s .args .t2 .«train_count») (s .args .t2 .«order_count») (s .args .progress .latest)
   low = test-means (c .before .none-above .ensures) (by-now _ (c .if1 .left))
 
 -- the way back to there from the test of the trains
@@ -28,7 +28,7 @@ returns-2 c =
     let orderly = crowded .before in
     let e = tested (orderly .before) in
     rw (figure .figure .ensures)
-    (decides-begun (sheetOf (s e .args .sheet)) (s e .args .progress) (low e) (orderly .are-orderly .ensures) _ (crowded .is-crowded .ensures))
+    (decides-begun (sheetOf (s e .args .t2)) (s e .args .progress) (low e) (orderly .are-orderly .ensures) _ (crowded .is-crowded .ensures))
 
 pub fits-spec : {M : Type 1} → statement M
 fits-spec =
@@ -39,6 +39,6 @@ fits-spec =
     (λ c κs. let e = tested c in
     let a = s e .pre in ((a .few .orders, a .complete .trains, a .few .trains, λ j l. a .in-range .orders j l .release .1), (low e, search needs)))
     (λ c κs. let t = s (tested (c .before)) in
-    let a = t .pre in (a .few .orders, a .few .trains, few-places (t .args .sheet) a, omega (arith, a .roomy)))
+    let a = t .pre in (a .few .orders, a .few .trains, few-places (t .args .t2) a, omega (arith, a .roomy)))
     (λ c κs. s (tested (c .before .before)) .pre)
     returns-2)

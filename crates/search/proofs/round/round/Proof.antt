@@ -46,7 +46,7 @@ made c = c .before .before .before .before
 -- where the round is begun
 module _ (s : tie.Start) where
   abbrev sheet : Sheet
-  sheet = sheetOf (s .args .sheet)
+  sheet = sheetOf (s .args .t2)
 
   abbrev progress : Progress
   progress = s .args .progress
@@ -57,14 +57,14 @@ module _ (s : tie.Start) where
   rides-all : Loaded sheet (loading sheet (take (sheet .orders) (progress .latest)))
   rides-all = loads sheet (s .pre .0) progress begins
 
-  to-load : ToLoad (sheet .orders) (sheet .trains) (s .args .sheet .release) (s .args .sheet .capacity) (progress .latest) (progress .train)
+  to-load : ToLoad (sheet .orders) (sheet .trains) (s .args .t2 .release) (s .args .t2 .capacity) (progress .latest) (progress .train)
   to-load =
       let a = s .pre .0 in
       record {
         few-orders = a .few .orders;
         few-trains = a .few .trains;
         releases = λ j l. a .in-range .orders j l .release .1;
-        capacities = few-places (s .args .sheet) a;
+        capacities = few-places (s .args .t2) a;
         may-ride = begins .latest;
         begins = begins .orderly;
       }
@@ -120,7 +120,7 @@ module _ (c : tie.After-window) where
 worst-of-requires : tie.Need-worst-of-requires
 worst-of-requires c κs =
     let s = start (load c) in
-    let m = s .args .sheet in
+    let m = s .args .t2 in
     let a = s .pre .0 in
     let l = train (load c) in
     (a .complete .orders, in-ranges m a, arrives m a l (its c .arrival) (loaded-column (sheetOf m) l (rides (load c))) (in-time c))
@@ -129,7 +129,7 @@ lower-requires : tie.Need-lower-requires
 lower-requires c κs =
     let plan = made (c .before .before) in
     let s = start (load plan) in
-    let m = s .args .sheet in
+    let m = s .args .t2 in
     let a = s .pre .0 in
     (in-ranges m a, arrives-to m a (its plan .arrival) (progress s .latest) (in-time plan) (begins s .latest))
 
@@ -201,6 +201,6 @@ round-spec =
     lower-requires
     (λ c κs. let s = at-start (c .before .before .before) in
     let a = s .pre .0 in
-    (a .few .orders, a .few .trains, few-places (s .args .sheet) a, omega (arith, a .roomy)))
+    (a .few .orders, a .few .trains, few-places (s .args .t2) a, omega (arith, a .roomy)))
     returns
     returns-2)
