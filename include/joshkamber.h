@@ -124,7 +124,7 @@ typedef struct {
 
 /* Where a search that is moved round by round stands between two calls. The caller holds it by value. `pairs`, how many pairs are recorded so far,
  * `rounds`, how many rounds were made, and `ended`, which is 0 while the search goes on, may be read; the rest is the search's own. It keeps two bytes
- * for each order: `train`, its train when the next round begins (0 for none, as before the first), and `latest`, the last train that it may ride. */
+ * for each order: `train`, its train in the last round (0 for none, as before the first), and `latest`, the last train that it may ride in the next. */
 typedef struct {
     size_t pairs;
     size_t rounds;
