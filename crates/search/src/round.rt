@@ -23,7 +23,14 @@ pub fn round(mut progress: Progress, sheet: Sheet) -> Progress
     let capacity = sheet.capacity;
     let latest = progress.latest;
     let before = progress.train;
-    let train = loading::load(n, sheet.train_count, &sheet.release, capacity, &latest, before);
+    let train = loading::load(
+        n,
+        sheet.train_count,
+        &sheet.release,
+        capacity,
+        &latest,
+        before,
+    );
     let timed = timing::time_trains(sheet, train);
     progress.better = false;
     progress.rounds = progress.rounds + 1;
