@@ -18,7 +18,7 @@ bar capacity riders low i = cond (eqb (at riders i) (capacity i)) (at low i) 0
 abbrev pub Barred : (q : ℕ) (capacity : ℕ → ℕ) (riders low bars : List ℕ) → Type 0
 Barred q capacity riders low bars = (i : ℕ) → 1 ≤ i → i ≤ q → at bars i ≡ bar capacity riders low i
 
--- m is the first of q trains behind i whose bar is lower than that of i, or q + 1: those between are no lower
+-- m is one of q trains behind i, or q + 1, and no train between them has a lower bar than i
 pub record Skip (i q : ℕ) (bars : List ℕ) (m : ℕ) : Type 0 where
   pub ahead : i < m
   pub most : m ≤ q + 1

@@ -63,7 +63,7 @@ fn find_bars(
     bars
 }
 
-// The first train behind i whose bar is lower than that of i, from those that are known; q + 1 where there is none.
+// The first train behind i whose bar is lower than that of i, found by those of the trains behind it; q + 1 where there is none.
 fn next_lower(i: u8, q: u8, bars: &[u32; TRAINS_AND_NONE], next: &[u8; TRAINS_AND_NONE]) -> u8
     requires { ⌜ (i < q) × (q ≤ train-counts .most) × Skips i q (now bars) (now next) ⌝ }
     ensures { λ r. ⌜ Skip i q (now (bars .entry)) r ⌝ }
