@@ -16,6 +16,7 @@ use Rattle.model.specs.declared.ListReply.the-variants as listing
 use Rattle.model.specs.declared.ChoiceReply.{ChoiceReply}
 use Rattle.model.specs.declared.ChoiceReply.the-variants as choosing
 use Rattle.rounds.specs.EntryPlan.{EntryPlan}
+use Rattle.rounds.specs.Prompt.{Prompt}
 use Rattle.rounds.specs.ChosenPair.{Best, TooEarly}
 use Rattle.rounds.specs.RoundsBound.{rounds-bound}
 use Rattle.rounds.specs.Areas.{ListRoom, list-to, list-reply, PlanAreas, PlanRoom, choose-to, choice-reply}
@@ -71,6 +72,8 @@ pub record ExportedChoice (s : Sheet) (wish : ℕ) (r : Choice) (left found : Pl
   pub booked : r .cause .number ≡ 0 → Booked s (plan-in s left .departure) (plan-in s left .window)
   -- document 02, No. 5: "an empty train waits only for its gap and window"
   pub empty-trains : r .cause .number ≡ 0 → EmptyTrains s (plan-in s left .train) (plan-in s left .departure)
+  -- document 02, No. 11: no train of the plan is needlessly late
+  pub prompt : r .cause .number ≡ 0 → Prompt s (Schedule s) (plan-in s left .train) (plan-in s left .departure)
   -- "the last listed pair not later than it", "and none that arrives in time has a smaller worst lateness"
   pub listed : r .cause .number ≡ 0 → ChosenListed s wish (pair-given r)
   pub best : r .cause .number ≡ 0 → Best s wish (pair-given r)

@@ -73,6 +73,7 @@ module _ (s : Sheet) (wish : ℕ) (left found : PlanAreas) where
         schedule = λ u. rw e (call .schedule (pair-given (choiceOf x)) (gives x (rw cause at u)));
         booked = λ u. call .booked (pair-given (choiceOf x)) (gives x (rw cause at u));
         empty-trains = λ u. call .empty-trains (pair-given (choiceOf x)) (gives x (rw cause at u));
+        prompt = λ u. call .prompt (pair-given (choiceOf x)) (gives x (rw cause at u));
         listed = λ u. rw e (call .listed (pair-given (choiceOf x)) (gives x (rw cause at u)));
         best = λ u. rw e (call .best (pair-given (choiceOf x)) (gives x (rw cause at u)));
         eight = rw cause (call .eight);

@@ -26,24 +26,24 @@ use Rattle.rounds.specs.Loading.{free, take-orders}
 use Rattle.rounds.specs.LoadingLaws.{decides-free, takes-all}
 use Rattle.rounds.specs.Timing.{stopped, timed}
 use Rattle.rounds.specs.Recording.{Entry, listed, entry-at, last-entry, recorded-arrival}
-use Rattle.rounds.specs.EntryPlan.{EntryPlan, EntryBooked, EntryEmptyTrains}
+use Rattle.rounds.specs.EntryPlan.{EntryPlan, EntryBooked, EntryEmptyTrains, EntryPrompt}
 use Rattle.rounds.specs.ChosenPair.{LastInTime, Best, TooEarly, Unbeaten}
 use Rattle.rounds.specs.Rounds.{going, ended, rounds-in, recorded-in, start, loading, times, first-timing, rounds, recorded-after, search}
 use Rattle.rounds.specs.RoundsBound.{rounds-bound}
 use Rattle.rounds.specs.Answers.{refused, given, Listing, list, last-arrival-in, last-listed, choose}
 use Rattle.rounds.specs.Areas.{list-left, plan-left}
 use Rattle.rounds.specs.Checking.{Verdict, check}
-use Rattle.rounds.specs.ByRound.{SearchAreas, Calls, then-round, then-look, round-calls, Then, search-by, seen, end-of, said, areas-by, Final}
+use Rattle.rounds.specs.ByRound.{SearchAreas, Calls, then-round, then-look, round-calls, Then, search-by, seen, end-of, said, last-plan, areas-by, Final}
 use Rattle.rounds.specs.PairListLaws.{apart}
 use Rattle.rounds.specs.ShortTrainLaws.{as-exactly}
 use Rattle.rounds.specs.OneRoundLaws.{every-order-loaded}
-use Rattle.rounds.specs.InvariantLaws.{entry-plans, entry-booked, entry-empty-trains, reached, earliest-plan, search-at-end}
+use Rattle.rounds.specs.InvariantLaws.{entry-plans, entry-booked, entry-empty-trains, entry-prompt, reached, earliest-plan, search-at-end}
 use Rattle.rounds.specs.ArrivalLaws as arrivals
 use Rattle.rounds.specs.AnswerLaws.{listed-so, listed-otherwise, eight-means, eight-given, eight-stops, ends-within}
 use Rattle.rounds.specs.ChosenLaws.{choice-best, chosen-so, eleven-chosen, eleven-before-first}
-use Rattle.rounds.specs.ChoosingLaws.{booked-chosen, empty-chosen, eight-chosen, eight-chosen-stops, listed-chosen, last-recorded-chosen}
+use Rattle.rounds.specs.ChoosingLaws.{booked-chosen, empty-chosen, prompt-chosen, eight-chosen, eight-chosen-stops, listed-chosen, last-recorded-chosen}
 use Rattle.rounds.specs.CheckingLaws.{yes-so, yes-unbeaten, yes-given, twelve-given, thirteen-given, own-plan, own-rows}
-use Rattle.rounds.specs.ByRoundLaws.{seen-is, look-leaves, end-is, said-at-end, pairs-at-end, plan-at-end}
+use Rattle.rounds.specs.ByRoundLaws.{last-plan-so, seen-is, look-leaves, end-is, said-at-end, pairs-at-end, plan-at-end}
 use Rattle.rounds.specs.ByRoundLaws as by-round
 use Rattle.rounds.specs.FinalLaws.{final}
 use Rattle.rounds.specs.BoundLaws as bounds
@@ -284,7 +284,23 @@ list-within s a e = let h = listed-so s a e in (h .few-rounds, h .few-pairs)
 pub bound-most : (s : Sheet) → Admitted s → rounds-bound s ≤ most-pairs
 bound-most s a = bounds.bound-most s a
 
--- ---- a search that goes on after k rounds. It loads every order, where trains run short too; document 02, No. 11 and No. 13 rest on the others
+-- ---- document 02, No. 11: no train needlessly late. `Prompt` in rounds/specs/Prompt.antt has its words. By a timetable all times are fixed, and it is said
+-- of both forms
+
+-- "For each plan that a window sheet gives": of each recorded one, after any number of rounds; "Empty places are covered too"
+pub recorded-prompt : (s : Sheet) → Admitted s → (k m : ℕ) → m < length (recorded-after s k)
+    → EntryPrompt s (entry-at (recorded-after s k) m)
+recorded-prompt s a k = entry-prompt s a k
+
+-- "and so are plans chosen by a wished arrival"
+pub chosen-prompt : (s : Sheet) → Admitted s → (wish : ℕ) {e : Entry} → choose s wish ≡ given e → EntryPrompt s e
+chosen-prompt s a wish u = prompt-chosen s a wish u
+
+-- and so is the plan that stands in the areas of a search that is watched, after every list of calls
+pub watched-prompt : (s : Sheet) → Admitted s → (calls : Calls) (e : Entry) → last-plan (recorded-in (search-by s calls)) ≡ given e → EntryPrompt s e
+watched-prompt s a calls e u = last-plan-so s (EntryPrompt s) (entry-prompt s a) calls e u
+
+-- ---- a search that goes on after k rounds. It loads every order, where trains run short too
 
 module _ (s : Sheet) (a : Admitted s) (k c : ℕ) (latest : List ℕ) (y : ℤ) (recorded : List Entry) (now : rounds s k (start s) ≡ going c latest y recorded) where
   -- the next round loads every order, on a train from 1 to q

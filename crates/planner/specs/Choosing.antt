@@ -14,6 +14,7 @@ use Rattle.model.specs.declared.ChoiceReply.{ChoiceReply}
 use Rattle.model.specs.declared.ChoiceReply.the-variants.{Chosen}
 use Rattle.rounds.specs.Areas.{PlanAreas, PlanRoom, choose-to}
 use Rattle.rounds.specs.EntryPlan.{EntryPlan}
+use Rattle.rounds.specs.Prompt.{Prompt}
 use Rattle.rounds.specs.ChosenPair.{Best, TooEarly}
 use Rattle.rounds.specs.Told.{ChoiceTold}
 use Rattle.front.specs.Front.{ChosenListed}
@@ -32,6 +33,8 @@ pub record ChoosingCall (s : Sheet) (wish : ℕ) (r : ChoiceReply) (left found :
   pub booked : (p : Pair) → Gives r p → Booked s (plan-in s left .departure) (plan-in s left .window)
   -- document 02, No. 5: "an empty train waits only for its gap and window"
   pub empty-trains : (p : Pair) → Gives r p → EmptyTrains s (plan-in s left .train) (plan-in s left .departure)
+  -- document 02, No. 11: no train of the plan is needlessly late
+  pub prompt : (p : Pair) → Gives r p → Prompt s (Schedule s) (plan-in s left .train) (plan-in s left .departure)
   -- "the last listed pair not later than it"
   pub listed : (p : Pair) → Gives r p → ChosenListed s wish p
   -- "and none that arrives in time has a smaller worst lateness"

@@ -23,13 +23,14 @@ use Rattle.model.specs.declared.ChoiceReply.{ChoiceReply}
 use Rattle.model.specs.declared.ChoiceReply.the-variants.{Refused}
 use Rattle.rounds.specs.Recording.{Plan, Entry}
 use Rattle.rounds.specs.EntryPlan.{EntryPlan}
+use Rattle.rounds.specs.Prompt.{Prompt}
 use Rattle.rounds.specs.ChosenPair.{TooEarly}
 use Rattle.rounds.specs.Answers.{Answer, refused, given, choose}
 use Rattle.rounds.specs.Areas.{PlanAreas, PlanRoom, plan-room, tested, choose-to, choice-reply, plan-left}
 use Rattle.rounds.specs.AreaLaws.{decides-plan-room, choice-refuses, plan-as-found}
 use Rattle.rounds.specs.ChoiceLaws.{Chose, no-schedule, too-early, choice, chose}
 use Rattle.rounds.specs.Told.{ChoiceTold}
-use Rattle.front.specs.Front.{chosen-plan, chosen-booked, chosen-empty-trains, chosen-listed, chosen-best, no-schedule-chosen, wish-too-early}
+use Rattle.front.specs.Front.{chosen-plan, chosen-booked, chosen-empty-trains, chosen-prompt, chosen-listed, chosen-best, no-schedule-chosen, wish-too-early}
 use Rattle.planner.specs.InAreas.{plan-in}
 use Rattle.planner.specs.InAreasLaws.{plan-read}
 use Rattle.room.specs.CallLaws.{passed, passes, answer-granted, accepted, told-first, told-then}
@@ -141,6 +142,7 @@ module _ (s : Sheet) (wish : ℕ) (r : ChoiceReply) (left found : PlanAreas) (to
         schedule = schedule;
         booked = plan-so (λ x. Booked s (x .departure) (x .window)) (λ a e u. chosen-booked s a wish u);
         empty-trains = plan-so (λ x. EmptyTrains s (x .train) (x .departure)) (λ a e u. chosen-empty-trains s a wish u);
+        prompt = plan-so (λ x. Prompt s (Schedule s) (x .train) (x .departure)) (λ a e u. chosen-prompt s a wish u);
         listed = λ p g. let c = accepts p g in rw (← (c .pair)) (chosen-listed s (c .admitted) wish (c .is));
         best = λ p g. let c = accepts p g in rw (← (c .pair)) (chosen-best s (c .admitted) wish (c .is));
         eight = λ a room. rw (told .replied, choice-of-rounds s wish found a room) (eight-chosen s a wish);

@@ -1,12 +1,13 @@
 -- Laws of a search that is moved by single calls: its start, the rounds made so far, and its end. Assumes nothing.
 use mathlib.Core.Path.{_≡_, refl, sym, ap, _∙_, subst}
-use mathlib.Core.List.{List, [], _∷_}
+use mathlib.Core.List.{List, [], _∷_, _++_}
 use Prim.Native.Nat.{ℕ, _≤_}
 use native.Mathlib.Numerals.{add-one}
 use native.Mathlib.Omega.{arith}
 use lib.IntN.{ℤ}
 use lib.ListN.{length}
 use Rattle.numbers.specs.DecidesLaws.{Decides, decides-and, decides-iff}
+use Rattle.numbers.specs.OneMoreLaws.{All, all-new}
 use Rattle.numbers.specs.Over.{over}
 use Rattle.model.specs.Sheet.{Sheet}
 use Rattle.model.specs.Refusal.{numberOf}
@@ -14,7 +15,8 @@ use Rattle.model.specs.Admission.{Admitted}
 use Rattle.model.specs.AdmissionLaws.{admission-numbers}
 use Rattle.model.specs.declared.Admission.{Admission}
 use Rattle.model.specs.declared.RoundReply.the-variants.{GoesOn}
-use Rattle.rounds.specs.Recording.{Entry, listed}
+use Rattle.rounds.specs.Recording.{Entry, listed, no-entry, last-entry}
+use Rattle.rounds.specs.RecordingLaws.{FromEnd, nothing, behind, from-end, last-behind}
 use Rattle.rounds.specs.Rounds.{Search, going, ended, rounds-in, recorded-in, start, round, rounds, recorded-after, search}
 use Rattle.rounds.specs.RoundsBound.{rounds-bound}
 use Rattle.rounds.specs.RoundsLaws.{one-round-more}
@@ -69,6 +71,29 @@ pub ended-so : (x : Search) → ¬ (said x ≡ GoesOn) → x ≡ ended (rounds-i
 ended-so (going c latest y recorded) e = absurd (e (said-going c latest y recorded))
 ended-so (ended c recorded) e = refl
 
+-- ---- the last plan
+
+-- there is one where something is recorded
+pub last-plan-given : (entries : List Entry) → 1 ≤ length entries → last-plan entries ≡ given (last-entry entries)
+unfolding last-plan
+last-plan-given [] l = absurd (omega arith)
+last-plan-given (e ∷ es) l = refl
+
+-- it is the plan of one of the entries
+last-plan-own : (P : Entry → Type 0) (entries : List Entry) → All no-entry P entries → (e : Entry) → last-plan entries ≡ given e → P e
+unfolding last-plan
+last-plan-own P entries all e u = go entries (from-end entries) all u
+  where
+    some : (before : List Entry) (x : Entry) → last-plan (before ++ (x ∷ [])) ≡ given x
+    some [] x = refl
+    some (y ∷ before) x = ap given (last-behind (y ∷ before) x)
+
+    go : (es : List Entry) → FromEnd es → All no-entry P es → last-plan es ≡ given e → P e
+    go es nothing f v = absurd (let z : _≡_ {A = ℕ} 0 1 = cc in omega arith)
+    go es (behind before x) f v =
+        let u : _≡_ {A = Answer Entry} (given x) (given e) = sym (some before x) ∙ v in
+        let same : x ≡ e = cc in subst P same (all-new no-entry before x P f)
+
 module _ (s : Sheet) where
   -- "A further round after the end changes nothing"
   pub no-more-rounds : (calls : Calls) (c : ℕ) (recorded : List Entry) → search-by s calls ≡ ended c recorded
@@ -93,6 +118,13 @@ module _ (s : Sheet) where
   -- a look gives what they have recorded
   pub seen-is : (calls : Calls) → seen s calls ≡ listed (recorded-after s (round-calls calls))
   seen-is calls = ap (λ x. listed (recorded-in x)) (made-so-far calls)
+
+  -- WHAT HOLDS OF EACH ENTRY, AFTER ANY NUMBER OF ROUNDS, HOLDS OF THE LAST PLAN
+  pub last-plan-so : (P : Entry → Type 0) → ((k : ℕ) → All no-entry P (recorded-after s k)) → (calls : Calls) (e : Entry)
+      → last-plan (recorded-in (search-by s calls)) ≡ given e → P e
+  last-plan-so P each calls =
+      last-plan-own P (recorded-in (search-by s calls))
+      (subst (λ (x : Search). All no-entry P (recorded-in x)) (sym (made-so-far calls)) (each (round-calls calls)))
 
 module _ (s : Sheet) (a : Admitted s) where
   -- ---- the end

@@ -14,13 +14,13 @@ use Rattle.model.specs.declared.Refusal.the-variants.{NoSchedule, WishTooEarly}
 use Rattle.rounds.specs.Timing.{stopped}
 use Rattle.rounds.specs.Recording.{Entry, record-entry, listed, no-entry, last-entry, recorded-arrival}
 use Rattle.rounds.specs.RecordingLaws.{listed-length, listed-at}
-use Rattle.rounds.specs.EntryPlan.{EntryBooked, EntryEmptyTrains}
+use Rattle.rounds.specs.EntryPlan.{EntryBooked, EntryEmptyTrains, EntryPrompt}
 use Rattle.rounds.specs.Rounds.{Search, ended, rounds-in, recorded-in, start, first-timing, rounds, recorded-after, search}
 use Rattle.rounds.specs.RoundsBound.{rounds-bound}
 use Rattle.rounds.specs.Answers.{Answer, refused, given, Listing, list-of, list, last-arrival-in, in-time, last-in-time, chosen, choose}
 use Rattle.rounds.specs.ListLaws.{list-given, last-arrival-at}
 use Rattle.rounds.specs.InTimeLaws.{when-timely, when-late, chosen-at, last-of-all, late-second, late-passed}
-use Rattle.rounds.specs.InvariantLaws.{Over, at-end, entry-booked, entry-empty-trains, over-by, search-at-end}
+use Rattle.rounds.specs.InvariantLaws.{Over, at-end, entry-booked, entry-empty-trains, entry-prompt, over-by, search-at-end}
 use Rattle.rounds.specs.ArrivalLaws.{Next, no-more, one-more, next-recorded, arrivals-in-order}
 use Rattle.rounds.specs.PairListLaws.{Rising, in-order}
 use Rattle.rounds.specs.EndLaws.{Unschedulable, listing-of, Found, nothing, entries, found}
@@ -91,6 +91,10 @@ module _ (s : Sheet) (a : Admitted s) (wish : ℕ) where
   -- and its empty trains wait only for gap and window
   pub empty-chosen : {e : Entry} → choose s wish ≡ given e → EntryEmptyTrains s e
   empty-chosen = of-recorded (EntryEmptyTrains s) (entry-empty-trains s a)
+
+  -- and none of its trains is needlessly late
+  pub prompt-chosen : {e : Entry} → choose s wish ≡ given e → EntryPrompt s e
+  prompt-chosen = of-recorded (EntryPrompt s) (entry-prompt s a)
 
   -- ONCE THE PAIR RECORDED LAST IS LATER THAN THE WISH THE CHOICE IS SETTLED
   pub choice-settled : (k : ℕ) → wish < recorded-arrival (recorded-after s k) → choose s wish ≡ chosen wish (recorded-after s k)

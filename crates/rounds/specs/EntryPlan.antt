@@ -10,6 +10,7 @@ use Rattle.model.specs.Lateness.{pairOf}
 use Rattle.model.specs.Booking.{Booked}
 use Rattle.model.specs.ShortTrains.{EmptyTrains}
 use Rattle.rounds.specs.Recording.{Entry}
+use Rattle.rounds.specs.Prompt.{Prompt}
 
 -- "record the pair (F_q, z) and this plan": the plan is a schedule, with the model's arrivals, and the pair is its own
 pub record EntryPlan (s : Sheet) (e : Entry) : Type 0 where
@@ -26,3 +27,7 @@ EntryBooked s e = Booked s (e .plan .departure) (e .plan .window)
 -- document 02, No. 5: the empty trains of the plan wait only for gap and window
 abbrev pub EntryEmptyTrains : Sheet → Entry → Type 0
 EntryEmptyTrains s e = EmptyTrains s (e .plan .train) (e .plan .departure)
+
+-- document 02, No. 11: no train of the plan is needlessly late, beside all schedules of the sheet
+abbrev pub EntryPrompt : Sheet → Entry → Type 0
+EntryPrompt s e = Prompt s (Schedule s) (e .plan .train) (e .plan .departure)

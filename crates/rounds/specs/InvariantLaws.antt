@@ -18,7 +18,7 @@ use Rattle.model.specs.Arrival.{arrival}
 use Rattle.model.specs.Admission.{Admitted}
 use Rattle.rounds.specs.Timing.{ready, Timed, timed}
 use Rattle.rounds.specs.Recording.{Entry, no-entry}
-use Rattle.rounds.specs.EntryPlan.{EntryPlan, EntryBooked, EntryEmptyTrains}
+use Rattle.rounds.specs.EntryPlan.{EntryPlan, EntryBooked, EntryEmptyTrains, EntryPrompt}
 use Rattle.rounds.specs.Rounds.{Search, going, ended, above-everything, recorded-in, start, loading, times, round, rounds, recorded-after, search}
 use Rattle.rounds.specs.RoundsBound.{rounds-bound}
 use Rattle.rounds.specs.RoundsLaws.{one-end}
@@ -47,6 +47,7 @@ module _ (s : Sheet) (a : Admitted s) where
               plans = λ k l. absurd (omega arith);
               booked = λ k l. absurd (omega arith);
               empty = λ k l. absurd (omega arith);
+              prompt = λ k l. absurd (omega arith);
               few = omega arith;
             };
       }
@@ -99,6 +100,10 @@ module _ (s : Sheet) (a : Admitted s) where
   -- AND THE EMPTY TRAINS WAIT ONLY FOR GAP AND WINDOW
   pub entry-empty-trains : (k : ℕ) → All no-entry (EntryEmptyTrains s) (recorded-after s k)
   entry-empty-trains k = on-record-after k .2 .empty
+
+  -- AND NO TRAIN IS NEEDLESSLY LATE
+  pub entry-prompt : (k : ℕ) → All no-entry (EntryPrompt s) (recorded-after s k)
+  entry-prompt k = on-record-after k .2 .prompt
 
   -- ---- a search that goes on
 

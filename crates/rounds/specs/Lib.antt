@@ -4,6 +4,7 @@ pub mod Timing
 pub mod TimingLaws
 pub mod Recording
 pub mod RecordingLaws
+pub mod Prompt
 pub mod EntryPlan
 pub mod ChosenPair
 pub mod Lowering
@@ -52,3 +53,5 @@ pub mod BoundCaseLaws
 pub mod SizeLaws
 pub mod ShortCases
 pub mod ShortCaseLaws
+pub mod PromptCases
+pub mod PromptCaseLaws

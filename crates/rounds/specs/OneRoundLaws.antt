@@ -1,6 +1,6 @@
 -- One round keeps what holds of the search: every schedule below the limit keeps to the latest trains, and what is recorded is the front of the
 -- others. Assumes nothing.
-use mathlib.Core.Path.{_≡_, refl, sym, subst}
+use mathlib.Core.Path.{_≡_, refl, sym, ap, subst}
 use mathlib.Core.Logic.{_⊎_, inl, inr}
 use mathlib.Core.Bool.{Bool, true, false, cond}
 use mathlib.Core.List.{List}
@@ -18,7 +18,7 @@ use Rattle.model.specs.Sheet.{Sheet, places}
 use Rattle.model.specs.Schedule.{Schedule, Departures}
 use Rattle.model.specs.Arrival.{arrival}
 use Rattle.model.specs.Booking.{BookedBy}
-use Rattle.model.specs.Lateness.{pairOf, lateness, worst}
+use Rattle.model.specs.Lateness.{Pair, pairOf, lateness, worst}
 use Rattle.model.specs.LatenessLaws.{lateness-rises, worst-above, worst-one}
 use Rattle.model.specs.Admission.{Admitted}
 use Rattle.rounds.specs.LoadingLaws.{on}
@@ -26,7 +26,7 @@ use Rattle.rounds.specs.Timing.{ready, Timed}
 use Rattle.rounds.specs.TimingLaws.{ready-above, ready-least, Covers}
 use Rattle.rounds.specs.Recording.{Plan, Entry, record-entry, no-entry}
 use Rattle.rounds.specs.RecordingLaws.{record-all, record-lengthens}
-use Rattle.rounds.specs.EntryPlan.{EntryPlan, EntryBooked, EntryEmptyTrains}
+use Rattle.rounds.specs.EntryPlan.{EntryPlan, EntryBooked, EntryEmptyTrains, EntryPrompt}
 use Rattle.rounds.specs.Lowering.{lower, crowded}
 use Rattle.rounds.specs.LoweringLaws.{GreatestEarly, latest-below-is, lower-at, Crowded, decides-crowded, not-crowded}
 use Rattle.rounds.specs.Rounds.{Search, going, ended, loading, times, settle, grade, depart, round}
@@ -44,13 +44,14 @@ module _ (s : Sheet) where
   abbrev pub Keeps : (latest train : List ℕ) → Type 0
   Keeps latest train = (j : ℕ) → j < s .orders → at train j ≤ at latest j
 
-  -- what is recorded where the limit is y: the front so far, each entry with its plan, that with its windows and with empty trains that leave at once, and
-  -- no more entries than rounds
+  -- what is recorded where the limit is y: the front so far, each entry with its plan, that with its windows, with empty trains that leave at once
+  -- and with no train needlessly late, and no more entries than rounds
   pub record OnRecord (y : ℤ) (recorded : List Entry) (c : ℕ) : Type 0 where
     pub front : Recorded s y recorded
     pub plans : All no-entry (EntryPlan s) recorded
     pub booked : All no-entry (EntryBooked s) recorded
     pub empty : All no-entry (EntryEmptyTrains s) recorded
+    pub prompt : All no-entry (EntryPrompt s) recorded
     pub few : length recorded ≤ c
 
   -- the search goes on after k rounds
@@ -126,7 +127,7 @@ module _ (s : Sheet) (a : Admitted s) (k c : ℕ) (latest : List ℕ) (y : ℤ) 
   bounded-now = omega (arith, g .shrunk, sum-near s (a .complete .trains) (at latest) (g .upto) (g .fits))
 
   one-round-later : OnRecord s y recorded c → OnRecord s y recorded (suc c)
-  one-round-later r = record { front = r .front; plans = r .plans; booked = r .booked; empty = r .empty; few = omega (arith, r .few) }
+  one-round-later r = record { front = r .front; plans = r .plans; booked = r .booked; empty = r .empty; prompt = r .prompt; few = omega (arith, r .few) }
 
   -- "If there is none, stop."
   stops : ((S : ℕ → ℕ) → Departures (s .paths) q S → ¬ Covers q released S) → Ended s (suc c) recorded
@@ -183,11 +184,20 @@ module _ (s : Sheet) (a : Admitted s) (k c : ℕ) (latest : List ℕ) (y : ℤ) 
               (omega (arith, ready-least (s .release) train i 0 n (λ j lj e. absurd (none j lj e))));
         }
 
-    -- no schedule below the limit arrives earlier, by any train
+    -- no schedule below the limit departs or arrives earlier, by any train
+    no-earlier : (other departure : List ℕ) → Schedule s other departure → pairOf s other departure .worst <ℤ y
+        → NoLater q (arrival (s .paths)) (nth S) (nth departure)
+    no-earlier other departure h l = least (nth departure) (h .departures) (covered other departure h (g .keeps other departure h l))
+
     sooner : (other departure : List ℕ) → Schedule s other departure → pairOf s other departure .worst <ℤ y
         → (i : ℕ) → 1 ≤ i → i ≤ q → nth F i ≤ arrival (s .paths) (nth departure) i
-    sooner other departure h l i p m =
-        omega (arith, arrives i p m, least (nth departure) (h .departures) (covered other departure h (g .keeps other departure h l)) i p m)
+    sooner other departure h l i p m = omega (arith, arrives i p m, no-earlier other departure h l i p m)
+
+    -- where step 3 records the plan, then, no train of it is needlessly late
+    prompt : z <ℤ y → EntryPrompt s entry
+    prompt better other departure h l i p m =
+        let (leaves, arrives) = no-earlier other departure h (≤ℤ-<ℤ-trans l (rw (ap (λ (v : Pair). v .worst) pair-is) better)) i p m in
+        record { leaves = leaves; arrives = arrives }
 
     -- steps 4 and 5, at the limit v
     module _ (v : ℤ) (v-y : v ≤ℤ y) (v-z : v ≤ℤ z) (recorded′ : List Entry) (on-record′ : OnRecord s v recorded′ (suc c)) where
@@ -277,6 +287,7 @@ module _ (s : Sheet) (a : Admitted s) (k c : ℕ) (latest : List ℕ) (y : ℤ) 
           plans = record-all (EntryPlan s) recorded entry (g .on-record .plans) entry-plan;
           booked = record-all (EntryBooked s) recorded entry (g .on-record .booked) (record { each-train = size-W; by-window = books });
           empty = record-all (EntryEmptyTrains s) recorded entry (g .on-record .empty) empty-trains;
+          prompt = record-all (EntryPrompt s) recorded entry (g .on-record .prompt) (prompt better);
           few = omega (arith, g .on-record .few, record-lengthens recorded entry .one-more);
         }
 

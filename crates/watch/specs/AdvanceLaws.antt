@@ -1,24 +1,23 @@
 -- One round, and what it writes: the state and the areas are as after one round call more. Assumes nothing.
 use mathlib.Core.Path.{_≡_, refl, sym, ap, _∙_, subst}
 use mathlib.Core.Bool.{true, false}
-use mathlib.Core.List.{List, [], _∷_, _++_}
+use mathlib.Core.List.{List, [], _∷_}
 use Prim.Native.Nat.{ℕ, _≤_}
 use native.Mathlib.Omega.{arith}
 use lib.IntN.{ℤ}
 use lib.ListN.{length}
-use Rattle.numbers.specs.OneMoreLaws.{All, all-new}
 use Rattle.numbers.specs.Over.{over}
 use Rattle.model.specs.Sheet.{Sheet}
-use Rattle.rounds.specs.Recording.{Entry, record-entry, listed, no-entry, last-entry}
-use Rattle.rounds.specs.RecordingLaws.{FromEnd, nothing, behind, from-end, last-behind, record-last, record-lengthens, last-recorded}
+use Rattle.rounds.specs.Recording.{Entry, record-entry, listed}
+use Rattle.rounds.specs.RecordingLaws.{record-lengthens, last-recorded}
 use Rattle.rounds.specs.EntryPlan.{EntryPlan}
 use Rattle.rounds.specs.Rounds.{Search, recorded-in, round}
 use Rattle.rounds.specs.InvariantLaws.{entry-plans}
-use Rattle.rounds.specs.Answers.{Answer, given}
+use Rattle.rounds.specs.Answers.{given}
 use Rattle.rounds.specs.Areas.{pair-numbers, plan-times, plan-left}
 use Rattle.rounds.specs.Told.{areas}
-use Rattle.rounds.specs.ByRound.{SearchAreas, all-areas, SearchRoom, Calls, then-round, round-calls, search-by, last-plan, areas-by}
-use Rattle.rounds.specs.ByRoundLaws.{made-so-far}
+use Rattle.rounds.specs.ByRound.{SearchAreas, all-areas, SearchRoom, Calls, then-round, search-by, last-plan, areas-by}
+use Rattle.rounds.specs.ByRoundLaws.{last-plan-given, last-plan-so}
 use Rattle.recording.specs.Recorded.{held-list, Lists, ListsMore}
 use Rattle.search.specs.Shows.{Shows, shown-entry, recorded-by, RoundMade, Makes}
 use Rattle.search.specs.declared.Progress.{Progress}
@@ -37,27 +36,7 @@ areas-same s x y lent e = rw e refl
 
 -- that of what was just recorded
 last-plan-new : (entries : List Entry) (e : Entry) → last-plan (record-entry entries e) ≡ given e
-unfolding last-plan
-last-plan-new entries e = go (record-entry entries e) (last-recorded entries e) (record-lengthens entries e .not-empty)
-  where
-    go : (es : List Entry) → last-entry es ≡ e → 1 ≤ length es → last-plan es ≡ given e
-    go [] u l = absurd (omega arith)
-    go (x ∷ es) u l = ap given u
-
--- it is the plan of one of the entries
-last-plan-own : (P : Entry → Type 0) (entries : List Entry) → All no-entry P entries → (e : Entry) → last-plan entries ≡ given e → P e
-unfolding last-plan
-last-plan-own P entries all e u = go entries (from-end entries) all u
-  where
-    some : (before : List Entry) (x : Entry) → last-plan (before ++ (x ∷ [])) ≡ given x
-    some [] x = refl
-    some (y ∷ before) x = ap given (last-behind (y ∷ before) x)
-
-    go : (es : List Entry) → FromEnd es → All no-entry P es → last-plan es ≡ given e → P e
-    go es nothing f v = absurd (let z : _≡_ {A = ℕ} 0 1 = cc in omega arith)
-    go es (behind before x) f v =
-        let u : _≡_ {A = Answer Entry} (given x) (given e) = sym (some before x) ∙ v in
-        let same : x ≡ e = cc in subst P same (all-new no-entry before x P f)
+last-plan-new entries e = last-plan-given (record-entry entries e) (record-lengthens entries e .not-empty) ∙ ap given (last-recorded entries e)
 
 module _ (s : Sheet) (state : State) (r : Progress) (makes : Makes s (progress-of state) r) (lent : SearchAreas) (calls : Calls) (found : SearchAreas)
     (h : LeftBy s lent calls state found) where
@@ -104,16 +83,11 @@ module _ (s : Sheet) (state : State) (r : Progress) (makes : Makes s (progress-o
     recorded-is : recorded-in next ≡ record-entry (recorded-in x) e
     recorded-is = rw better at records
 
-    -- every entry's plan is a schedule
-    plans : (calls : Calls) → All no-entry (EntryPlan s) (recorded-in (search-by s calls))
-    plans calls =
-        subst (λ (y : Search). All no-entry (EntryPlan s) (recorded-in y)) (sym (made-so-far s calls))
-        (entry-plans s (h .admitted) (round-calls calls))
-
+    -- its plan is a schedule, as every entry's
     own : EntryPlan s e
     own =
-        let (before, u) = record-last (recorded-in x) e in
-        all-new no-entry before e (EntryPlan s) (subst (All no-entry (EntryPlan s)) (recorded-is ∙ u) (plans (then-round calls)))
+        last-plan-so s (EntryPlan s) (entry-plans s (h .admitted)) (then-round calls) e
+        (ap last-plan recorded-is ∙ last-plan-new (recorded-in x) e)
 
     -- the list that was held
     held : Lists (lent .pairs) (held-list (state .pairs) (state .last) (found .pairs)) (recorded-in x)
@@ -141,7 +115,7 @@ module _ (s : Sheet) (state : State) (r : Progress) (makes : Makes s (progress-o
     unfolding areas-by
     moves-better lists trains-are times-are u v w =
         let after = lists (lent .pairs) (recorded-in x) e refl held in
-        let written = writes-over s (lent .plan) e own (last-plan (recorded-in x)) (last-plan-own (EntryPlan s) (recorded-in x) (plans calls)) (found .plan)
+        let written = writes-over s (lent .plan) e own (last-plan (recorded-in x)) (last-plan-so s (EntryPlan s) (entry-plans s (h .admitted)) calls) (found .plan)
         (ap (λ (a : SearchAreas). a .plan) (h .areas-are)) in
         record {
           admitted = h .admitted;

@@ -2,15 +2,17 @@
 use mathlib.Core.Path.{_≡_}
 use Prim.Native.Nat.{ℕ, _≤_}
 use Rattle.model.specs.Sheet.{Sheet}
+use Rattle.model.specs.Schedule.{Schedule}
 use Rattle.model.specs.declared.Admission.the-variants.{Granted}
 use Rattle.model.specs.declared.RoundReply.the-variants.{GoesOn}
 use Rattle.rounds.specs.Recording.{listed}
+use Rattle.rounds.specs.Prompt.{Prompt}
 use Rattle.rounds.specs.Rounds.{recorded-after}
 use Rattle.rounds.specs.RoundsBound.{rounds-bound}
 use Rattle.rounds.specs.Answers.{list, last-listed, choose}
 use Rattle.rounds.specs.Areas.{list-left, plan-left}
 use Rattle.rounds.specs.ByRound.{SearchAreas, Calls, started, then-round, then-look, round-calls, Then, search-by, end-of, said, Final}
-use Rattle.planner.specs.InAreas.{pairs-in}
+use Rattle.planner.specs.InAreas.{pairs-in, plan-in}
 use Rattle.watch.specs.Calls.{StartCall, RoundCall, LookCall}
 use Rattle.watch.specs.declared.State.{State}
 use Rattle.watch.specs.declared.Started.{Started}
@@ -46,3 +48,5 @@ pub record AfterCalls (s : Sheet) (lent : SearchAreas) (calls : Calls) (state : 
   -- document 02, No. 6: "the round-by-round search ends within the same figure"
   pub ends : rounds-bound s ≤ round-calls calls → ¬ (said (search-by s calls) ≡ GoesOn)
   pub as-unbroken : ¬ (said (search-by s calls) ≡ GoesOn) → AsUnbroken s lent calls left
+  -- document 02, No. 11: where a pair is recorded, no train of the plan in the areas is needlessly late
+  pub prompt : 1 ≤ state .pairs → Prompt s (Schedule s) (plan-in s (left .plan) .train) (plan-in s (left .plan) .departure)

@@ -16,6 +16,7 @@ use Rattle.front.specs.Front.{look-gives, look-final, further-round, end-comes,
 use Rattle.search.specs.Shows.{Stands, goes-on, has-ended}
 use Rattle.watch.specs.State.{progress-of}
 use Rattle.watch.specs.LeftBy.{LeftBy}
+use Rattle.watch.specs.PlanLaws.{prompt-here}
 use Rattle.watch.specs.AnyCalls.{Made, starts, moves, looks, AsUnbroken, AfterCalls}
 use Rattle.watch.specs.declared.State.{State}
 
@@ -68,4 +69,5 @@ module _ (s : Sheet) (lent : SearchAreas) where
             (state-kept, left-kept, c .says lent calls h ∙ ap said (further-round s calls e));
         ends = end-comes s a calls;
         as-unbroken = unbroken calls state left h;
+        prompt = prompt-here s lent calls state left h;
       }

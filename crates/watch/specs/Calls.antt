@@ -6,12 +6,14 @@ use Prim.Native.Nat.{ℕ, _*_, _≤_, _<_}
 use lib.IntN.{ℤ}
 use lib.ListN.{length}
 use Rattle.model.specs.Sheet.{Sheet, places}
+use Rattle.model.specs.Schedule.{Schedule}
 use Rattle.model.specs.Limits.{numbers-a-pair}
 use Rattle.model.specs.Refusal.{of-round, numberOf, returnedOf}
 use Rattle.model.specs.declared.Admission.the-variants.{Granted}
 use Rattle.model.specs.declared.RoundReply.the-variants.{Ended}
+use Rattle.rounds.specs.Prompt.{Prompt}
 use Rattle.rounds.specs.ByRound.{SearchAreas, start-to, Calls, started, then-round, search-by, seen, said}
-use Rattle.planner.specs.InAreas.{pairs-in}
+use Rattle.planner.specs.InAreas.{pairs-in, plan-in}
 use Rattle.watch.specs.State.{no-state}
 use Rattle.watch.specs.LeftBy.{LeftBy}
 use Rattle.watch.specs.declared.State.{State}
@@ -39,6 +41,9 @@ pub record RoundCall (s : Sheet) (state : State) (r : Moved) (left found : Searc
   pub moves : (lent : SearchAreas) (calls : Calls) → LeftBy s lent calls state found → LeftBy s lent (then-round calls) (r .state) left
   -- that it goes on, or the end
   pub says : (lent : SearchAreas) (calls : Calls) → LeftBy s lent calls state found → r .reply ≡ said (search-by s (then-round calls))
+  -- document 02, No. 11: where a pair is recorded by then, no train of the plan in the areas is needlessly late
+  pub prompt : (lent : SearchAreas) (calls : Calls) → LeftBy s lent calls state found → 1 ≤ r .state .pairs
+      → Prompt s (Schedule s) (plan-in s (left .plan) .train) (plan-in s (left .plan) .departure)
   -- Whatever the state, the sheet and the areas are: "A further round after the end changes nothing"
   pub after-the-end : ¬ (state .ended ≡ 0) → (r .state ≡ state) × (left ≡ found)
   -- what is no state of a search here is told as ended with no pair after no round, and nothing is changed

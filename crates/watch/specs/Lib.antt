@@ -8,5 +8,6 @@ pub mod StateLaws
 pub mod FitLaws
 pub mod CallLaws
 pub mod AdvanceLaws
+pub mod PlanLaws
 pub mod RoundCallLaws
 pub mod AnyCallsLaws

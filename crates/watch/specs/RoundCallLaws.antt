@@ -20,6 +20,7 @@ use Rattle.watch.specs.StateLaws.{SaidSo, goes, none, some, said-so, sai
 use Rattle.watch.specs.Fit.{Fits}
 use Rattle.watch.specs.FitLaws.{left-fits}
 use Rattle.watch.specs.LeftBy.{LeftBy}
+use Rattle.watch.specs.PlanLaws.{prompt-here}
 use Rattle.watch.specs.Calls.{RoundCall}
 use Rattle.watch.specs.Advance.{Advanced}
 use Rattle.watch.specs.declared.State.{State}
@@ -63,6 +64,7 @@ module _ (s : Sheet) (state : State) (found : SearchAreas) where
       record {
         moves = λ lent calls h. absurd (foreign (left-fits s lent calls state found h));
         says = λ lent calls h. absurd (foreign (left-fits s lent calls state found h));
+        prompt = λ lent calls h some. absurd (foreign (left-fits s lent calls state found h));
         after-the-end = λ e. (refl, refl);
         no-search = λ e. (refl, refl);
         within = λ pairs rounds e. let z : pairs ≡ 0 = cc in omega arith;
@@ -91,6 +93,7 @@ module _ (s : Sheet) (state : State) (found : SearchAreas) where
                 areas-are = h .areas-are ∙ ap (λ (y : Search). areas-by s y lent) x;
               };
           says = λ lent calls h. said-is s lent calls state found h ∙ ap said (sym (stays lent calls h));
+          prompt = λ lent calls h. prompt-here s lent calls state found h;
           after-the-end = λ e. (refl, refl);
           no-search = λ e. (refl, refl);
           within = λ pairs rounds e.
@@ -114,6 +117,7 @@ module _ (s : Sheet) (state : State) (found : SearchAreas) where
       record {
         moves = advanced .moves;
         says = λ lent calls h. said-is s lent (then-round calls) next left (advanced .moves lent calls h);
+        prompt = λ lent calls h. prompt-here s lent (then-round calls) next left (advanced .moves lent calls h);
         after-the-end = λ e. absurd (e on);
         no-search = λ e. absurd (ended-pairs next (said-of next) so 0 0 e .1 refl);
         within = λ pairs rounds e. omega (arith, ended-pairs next (said-of next) so pairs rounds e .0, advanced .within);

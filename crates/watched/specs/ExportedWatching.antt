@@ -7,10 +7,13 @@ use mathlib.Core.Bool.{true, false}
 use Prim.Native.Nat.{_*_, _≤_, _<_}
 use lib.ListN.{length}
 use Rattle.model.specs.Sheet.{Sheet, places}
+use Rattle.model.specs.Schedule.{Schedule}
 use Rattle.model.specs.Limits.{numbers-a-pair}
 use Rattle.model.specs.declared.RoundReply.{RoundReply}
 use Rattle.model.specs.declared.RoundReply.the-variants.{GoesOn, Ended, Refused}
+use Rattle.rounds.specs.Prompt.{Prompt}
 use Rattle.rounds.specs.ByRound.{SearchAreas, start-to, Calls, started, then-round, search-by, said}
+use Rattle.planner.specs.InAreas.{plan-in}
 use Rattle.watch.specs.State.{no-state}
 use Rattle.watch.specs.LeftBy.{LeftBy}
 use Rattle.watch.specs.Calls.{StartCall, RoundCall}
@@ -56,6 +59,9 @@ pub record ExportedRound (s : Sheet) (state : State) (r : Round) (left found : S
   -- whatever calls have left the state and the areas: they are left as after one round call more, and the numbers say that it goes on, or the end
   pub moves : (lent : SearchAreas) (calls : Calls) → LeftBy s lent calls state found → LeftBy s lent (then-round calls) (r .state) left
   pub says : (lent : SearchAreas) (calls : Calls) → LeftBy s lent calls state found → r ≡ round-told (r .state) (said (search-by s (then-round calls)))
+  -- document 02, No. 11: where a pair is recorded by then, no train of the plan in the areas is needlessly late
+  pub prompt : (lent : SearchAreas) (calls : Calls) → LeftBy s lent calls state found → 1 ≤ r .state .pairs
+      → Prompt s (Schedule s) (plan-in s (left .plan) .train) (plan-in s (left .plan) .departure)
   -- whatever the state, the sheet and the areas are: "A further round after the end changes nothing"
   pub after-the-end : ¬ (state .ended ≡ 0) → (r .state ≡ state) × (left ≡ found)
   -- what is no state of a search here is told as ended with no pair after no round, and nothing is changed

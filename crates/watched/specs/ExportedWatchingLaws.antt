@@ -83,6 +83,7 @@ exported-round s state left found x r call e =
       call = call;
       moves = λ lent calls h. rw next (call .moves lent calls h);
       says = λ lent calls h. e ∙ rw (next, call .says lent calls h) refl;
+      prompt = λ lent calls h. rw next (call .prompt lent calls h);
       after-the-end = λ over. rw next (call .after-the-end over);
       no-search = λ n over none no-round.
           rw next (call .no-search (told-none (x .state) (x .reply) (rw cause at n) (rw e at over) (rw e at none) (rw e at no-round)));
