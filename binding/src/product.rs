@@ -1,7 +1,7 @@
 //! The product as an implementation beside the independent one: the same calls, with the same types.
 
-use crate::areas::{CheckAreas, PairsArea, PlanAreas};
-use crate::calls::{name_in_timetable, name_in_windows, read_timetable, read_windows, Cause, NamePlace};
+use crate::areas::{CheckAreas, PairsArea, PlanAreas, SearchAreas};
+use crate::calls::{look, name_in_timetable, name_in_windows, read_timetable, read_windows, Cause, NamePlace};
 use crate::exported::ExportedSheet;
 use native::checking::{Checked, ForeignPlan};
 use native::plan::{times_in, Entry, Listing, Pair, Plan};
@@ -12,7 +12,7 @@ use native::refusal::Refusal;
 use native::sheet::{Form, Sheet};
 use std::ops::Range;
 
-pub const PRODUCT: Implementation = Implementation { read, list, choose, check, bound };
+pub const PRODUCT: Implementation = Implementation { read, list, choose, check, bound, watch };
 
 fn passed(cause: Cause) -> Result<(), Refusal> {
     match cause.number {
@@ -63,24 +63,27 @@ fn list(sheet: &Sheet) -> Result<Listing, Refusal> {
     let mut area = PairsArea::of_length(pairs_length(&exported));
     let listing = exported.list_in(&mut area);
     passed(listing.cause)?;
-    let pair = |numbers: &[i64]| {
-        let arrival = u32::try_from(numbers[0]).expect("an arrival is a time of day");
-        Pair { arrival, lateness: numbers[1] }
-    };
-    let pairs = area.first(PairsArea::length_of(listing.pairs)).chunks(2).map(pair).collect();
+    let pairs = area.first(PairsArea::length_of(listing.pairs)).chunks(2).map(pair_in).collect();
     Ok(Listing { pairs, rounds: listing.rounds })
 }
 
+/// The pair of two numbers of an area.
+fn pair_in(numbers: &[i64]) -> Pair {
+    let arrival = u32::try_from(numbers[0]).expect("an arrival is a time of day");
+    Pair { arrival, lateness: numbers[1] }
+}
+
 fn choose(sheet: &Sheet, wish: u32) -> Result<Entry, Refusal> {
-    let lengths = PlanAreas::least(sheet);
-    let mut areas = PlanAreas::of_lengths(lengths);
+    let mut areas = PlanAreas::of_lengths(PlanAreas::least(sheet));
     let choice = ExportedSheet::from(sheet).choose_in(wish, &mut areas);
     passed(choice.cause)?;
-    let plan = Plan {
-        train_of_order: areas.train_of_order.first(lengths[0]).to_vec(),
-        times: times_in(areas.times.first(lengths[1])),
-    };
-    Ok(Entry { pair: Pair { arrival: choice.last, lateness: choice.worst }, plan })
+    Ok(Entry { pair: Pair { arrival: choice.last, lateness: choice.worst }, plan: plan_in(sheet, &areas) })
+}
+
+/// The plan at the front of the areas.
+fn plan_in(sheet: &Sheet, areas: &PlanAreas) -> Plan {
+    let [trains, times] = PlanAreas::least(sheet);
+    Plan { train_of_order: areas.train_of_order.first(trains).to_vec(), times: times_in(areas.times.first(times)) }
 }
 
 fn check(sheet: &Sheet, plan: &ForeignPlan) -> Result<Checked, Refusal> {
@@ -93,4 +96,23 @@ fn check(sheet: &Sheet, plan: &ForeignPlan) -> Result<Checked, Refusal> {
         listed: check.listed,
         counts: Counts { pairs: check.pairs, rounds: check.rounds },
     })
+}
+
+fn watch(sheet: &Sheet) -> Vec<Entry> {
+    let exported = ExportedSheet::from(sheet);
+    let mut areas = SearchAreas::of_lengths(SearchAreas::least(sheet));
+    let start = exported.start_in(&mut areas);
+    if passed(start.cause).is_err() {
+        return Vec::new();
+    }
+    let (mut plans, mut state, mut ended) = (Vec::new(), start.state, false);
+    while !ended {
+        let round = exported.round_in(&state, &mut areas);
+        (state, ended) = (round.state, round.ended);
+        let seen = PairsArea::length_of(look(&state, areas.pairs.lent()));
+        if let Some(numbers) = areas.pairs.first(seen).chunks(2).last() {
+            plans.push(Entry { pair: pair_in(numbers), plan: plan_in(sheet, &areas.plan) });
+        }
+    }
+    plans
 }

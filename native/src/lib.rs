@@ -20,6 +20,7 @@ pub mod listing;
 pub mod plan;
 pub mod planner;
 pub mod print;
+pub mod prompt;
 pub mod reader;
 pub mod refusal;
 pub mod rng;

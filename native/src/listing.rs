@@ -32,7 +32,7 @@ impl Seen {
 }
 
 /// One number a train; behind the last train 0.
-type Row = [u32; MOST_TRAINS];
+pub(crate) type Row = [u32; MOST_TRAINS];
 
 /// All loadings with earliest departures.
 pub fn seen(sheet: &Sheet) -> Seen {
@@ -62,7 +62,7 @@ pub fn schedules(sheet: &Sheet) -> BTreeMap<(Vec<u32>, Vec<usize>), Pair> {
 }
 
 /// Calls `visit` with the departures, the train (from 0) of each order and the arrivals, for every schedule.
-fn each_schedule(sheet: &Sheet, visit: &mut impl FnMut(&[u32], &[usize], &Row)) {
+pub(crate) fn each_schedule(sheet: &Sheet, visit: &mut impl FnMut(&[u32], &[usize], &Row)) {
     each_loading(sheet, &mut |train| {
         let greatest = greatest_releases(&sheet.orders, train);
         match &sheet.paths {
@@ -161,7 +161,7 @@ fn arrivals(windows: &Windows, departure: &[u32]) -> Row {
     arrival
 }
 
-fn pair_of(sheet: &Sheet, train: &[usize], arrival: &Row) -> Pair {
+pub(crate) fn pair_of(sheet: &Sheet, train: &[usize], arrival: &Row) -> Pair {
     let (n, q) = sheet.size();
     let worst = (0..n).map(|j| sheet.orders.lateness(j, arrival[train[j]])).max().expect("an order");
     Pair { arrival: arrival[q - 1], lateness: worst }

@@ -5,20 +5,22 @@ use crate::plan::{Entry, Listing, Plan};
 use crate::reader::Reading;
 use crate::refusal::Refusal;
 use crate::sheet::{Form, Sheet};
-use crate::{checking, planner, reader};
+use crate::{checking, planner, reader, watching};
 use std::fmt::Write;
 use std::ops::Range;
 
 /// What the program `plan` reads at most.
 pub const LONGEST_TEXT: usize = 65_536;
 
-/// The calls that printing takes, the checking call, and the one that says how long the list may be.
+/// The calls that printing takes, the checking call, the one that says how long the list may be, and a watched search, of which the plan that stands in the
+/// areas after each round is given, with the pair recorded last.
 pub struct Implementation {
     pub read: fn(&[u8], Form) -> Result<Reading, Refusal>,
     pub list: fn(&Sheet) -> Result<Listing, Refusal>,
     pub choose: fn(&Sheet, u32) -> Result<Entry, Refusal>,
     pub check: fn(&Sheet, &ForeignPlan) -> Result<Checked, Refusal>,
     pub bound: fn(&Sheet) -> Result<usize, Refusal>,
+    pub watch: fn(&Sheet) -> Vec<Entry>,
 }
 
 pub const INDEPENDENT: Implementation = Implementation {
@@ -27,6 +29,7 @@ pub const INDEPENDENT: Implementation = Implementation {
     choose: planner::choose,
     check: checking::check,
     bound: planner::bound,
+    watch: watching::watch,
 };
 
 /// What the program `plan` prints for this standard input, by the independent implementation.

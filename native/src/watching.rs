@@ -2,8 +2,8 @@
 //! is given the same sheet and the same areas.
 
 use crate::admission::admit;
-use crate::plan::{time_numbers, Pair};
-use crate::planner::{holds_pairs, holds_plan, put_first, Counts};
+use crate::plan::{time_numbers, times_in, Entry, Pair, Plan, NUMBERS_A_TRAIN};
+use crate::planner::{figure, holds_pairs, holds_plan, put_first, Counts};
 use crate::refusal::Refusal;
 use crate::search::Search;
 use crate::sheet::Sheet;
@@ -69,4 +69,27 @@ impl Watched {
     pub fn look<'a>(&self, pairs: &'a [Pair]) -> &'a [Pair] {
         &pairs[..self.pairs]
     }
+}
+
+/// A whole search in areas of its own: the plan that stands there after each round, with the pair recorded last. None stands there where nothing is recorded,
+/// and none is given of a sheet that the start refuses.
+pub fn watch(sheet: &Sheet) -> Vec<Entry> {
+    let (n, q) = sheet.size();
+    let lengths = [figure(sheet), n, NUMBERS_A_TRAIN * q];
+    let Ok(mut search) = Watched::start(sheet, lengths) else { return Vec::new() };
+    let mut areas = SearchAreas {
+        pairs: vec![Pair::default(); lengths[0]],
+        train_of_order: vec![0; lengths[1]],
+        times: vec![0; lengths[2]],
+    };
+    let mut plans = Vec::new();
+    let mut goes_on = true;
+    while goes_on {
+        goes_on = search.round(sheet, &mut areas) == Said::GoesOn;
+        let SearchAreas { pairs, train_of_order, times } = &areas;
+        if let Some(&pair) = search.look(pairs).last() {
+            plans.push(Entry { pair, plan: Plan { train_of_order: train_of_order.clone(), times: times_in(times) } });
+        }
+    }
+    plans
 }

@@ -16,6 +16,7 @@ mod listing;
 mod places;
 mod planning;
 mod printing;
+mod prompt;
 mod share;
 mod size;
 mod spoil;

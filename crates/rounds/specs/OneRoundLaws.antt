@@ -196,8 +196,9 @@ module _ (s : Sheet) (a : Admitted s) (k c : ℕ) (latest : List ℕ) (y : ℤ) 
     -- where step 3 records the plan, then, no train of it is needlessly late
     prompt : z <ℤ y → EntryPrompt s entry
     prompt better other departure h l i p m =
-        let (leaves, arrives) = no-earlier other departure h (≤ℤ-<ℤ-trans l (rw (ap (λ (v : Pair). v .worst) pair-is) better)) i p m in
-        record { leaves = leaves; arrives = arrives }
+        let own : pairOf s train S .worst <ℤ y = rw (ap (λ (v : Pair). v .worst) pair-is) better in
+        let w = no-earlier other departure h (≤ℤ-<ℤ-trans l own) i p m in
+        record { leaves = omega (arith, w); arrives = omega (arith, w) }
 
     -- steps 4 and 5, at the limit v
     module _ (v : ℤ) (v-y : v ≤ℤ y) (v-z : v ≤ℤ z) (recorded′ : List Entry) (on-record′ : OnRecord s v recorded′ (suc c)) where

@@ -8,6 +8,7 @@ mod judge;
 mod listing;
 mod memory;
 mod printing;
+mod prompt;
 mod reached;
 mod reading;
 mod rounds;
