@@ -186,7 +186,8 @@ joshkamber_listing joshkamber_list_timetable(joshkamber_timetable_sheet sheet, i
  *    times            at least 3 q      departure, arrival and window of each train, of an empty one too
  *
  * Windows count from 1 in the order of the sheet, and a train's window is the one that contains its departure; in the timetable form it is 0.
- * A train that no order rides waits only for its gap and window.
+ * A train that no order rides waits only for its gap and window. No train is needlessly late: every schedule of the sheet whose worst lateness is no
+ * greater than this plan's has each train, an empty one too, leave no earlier and arrive no earlier.
  *
  * Only the front of each area is written (n and 3 q elements), and nothing where the call refuses. */
 joshkamber_choice joshkamber_choose_windows(joshkamber_window_sheet sheet, uint32_t wish, uint8_t *train_of_order,
@@ -227,6 +228,8 @@ joshkamber_check joshkamber_check_timetable(joshkamber_timetable_sheet sheet, co
  *    pairs            at least 2 most   last arrival and worst weighted lateness of each pair recorded so far, by rising arrival
  *    train_of_order   at least n        the train, from 1, of each order in the plan of the pair recorded last
  *    times            at least 3 q      departure, arrival and window of each train in that plan
+ *
+ * Once a pair is recorded, no train of that plan is needlessly late, as in choosing: also while the search goes on.
  *
  * Only round calls write, and only the front of each area (2 elements for each pair, n and 3 q). Nothing outside the given areas is ever written,
  * whatever a call is given. */

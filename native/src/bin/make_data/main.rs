@@ -15,6 +15,7 @@ mod short;
 mod short_ladders;
 mod store;
 mod timetable_refusals;
+mod waiting;
 mod window_refusals;
 
 use std::path::Path;
@@ -33,6 +34,7 @@ fn main() {
     short_ladders::store_hard(&mut store);
     bytes::store_all(&mut store);
     drawn::store_any(&mut store);
+    waiting::store_all(&mut store);
     short::store_all(&mut store);
     full_lists::store_all(&mut store);
     match args.get(1) {
