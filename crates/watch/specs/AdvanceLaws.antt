@@ -83,11 +83,12 @@ module _ (s : Sheet) (state : State) (r : Progress) (makes : Makes s (progress-o
     recorded-is : recorded-in next ≡ record-entry (recorded-in x) e
     recorded-is = rw better at records
 
-    -- its plan is a schedule, as every entry's
+    -- the last plan is a schedule, after any calls; so this one is
+    plans : (calls : Calls) (e₀ : Entry) → last-plan (recorded-in (search-by s calls)) ≡ given e₀ → EntryPlan s e₀
+    plans = last-plan-so s (EntryPlan s) (entry-plans s (h .admitted))
+
     own : EntryPlan s e
-    own =
-        last-plan-so s (EntryPlan s) (entry-plans s (h .admitted)) (then-round calls) e
-        (ap last-plan recorded-is ∙ last-plan-new (recorded-in x) e)
+    own = plans (then-round calls) e (ap last-plan recorded-is ∙ last-plan-new (recorded-in x) e)
 
     -- the list that was held
     held : Lists (lent .pairs) (held-list (state .pairs) (state .last) (found .pairs)) (recorded-in x)
@@ -115,7 +116,7 @@ module _ (s : Sheet) (state : State) (r : Progress) (makes : Makes s (progress-o
     unfolding areas-by
     moves-better lists trains-are times-are u v w =
         let after = lists (lent .pairs) (recorded-in x) e refl held in
-        let written = writes-over s (lent .plan) e own (last-plan (recorded-in x)) (last-plan-so s (EntryPlan s) (entry-plans s (h .admitted)) calls) (found .plan)
+        let written = writes-over s (lent .plan) e own (last-plan (recorded-in x)) (plans calls) (found .plan)
         (ap (λ (a : SearchAreas). a .plan) (h .areas-are)) in
         record {
           admitted = h .admitted;

@@ -20,7 +20,8 @@ use Rattle.watch.specs.LeftBy.{LeftBy}
 use Rattle.watch.specs.declared.State.{State}
 
 -- of a state and areas that these calls left, where a pair is recorded
-module _ (s : Sheet) (lent : SearchAreas) (calls : Calls) (state : State) (left : SearchAreas) (h : LeftBy s lent calls state left) (some : 1 ≤ state .pairs) where
+module _ (s : Sheet) (lent : SearchAreas) (calls : Calls) (state : State) (left : SearchAreas) (h : LeftBy s lent calls state left)
+    (some : 1 ≤ state .pairs) where
   abbrev e : Entry
   e = last-entry (recorded-in (search-by s calls))
 
