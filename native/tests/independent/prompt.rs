@@ -84,7 +84,8 @@ fn small_sheets() {
         }
         tally.print(&format!("independent planner, {form:?}"));
         assert!(tally.needless == 0 && tally.plans > count / 2 && tally.empty > count / 4, "{tally:?}");
-        assert!((tally.waiting > count / 5) == (form == Form::Windows), "{tally:?}");
+        let waiting = if form == Form::Windows { tally.waiting > count / 5 } else { tally.waiting == 0 };
+        assert!(waiting, "{tally:?}");
     }
 }
 
