@@ -15,6 +15,7 @@ use Rattle.rounds.specs.Rounds.{Search, ended, start, rounds}
 use Rattle.rounds.specs.RoundsBound.{rounds-bound}
 use Rattle.rounds.specs.Answers.{Answer, refused, given}
 use Rattle.rounds.specs.Areas.{after-tests}
+use Rattle.rounds.specs.AimLaws.{whole}
 use Rattle.rounds.specs.InvariantLaws.{Over, at-end, over-by}
 use Rattle.rounds.specs.Bound.{bound, bound-reply}
 use Rattle.rounds.specs.BoundLaws.{no-more-rounds, no-more-pairs, bound-admitted, bound-given, bound-refuses}
@@ -50,9 +51,9 @@ module _ (s : Sheet) (r : BoundReply) (equal : r ≡ bound-reply (bound s)) wher
   figure-of a = equal ∙ ap bound-reply (bound-admitted s a)
 
   has-ended : Admitted s → (k : ℕ) → rounds-bound s ≤ k → (c : ℕ) × (recorded : List Entry) × (rounds s k (start s) ≡ ended c recorded)
-  has-ended a k l = go (rounds s k (start s)) (over-by s a k l)
+  has-ended a k l = go (rounds s k (start s)) (over-by s (whole s a) k l)
     where
-      go : (x : Search) → Over s x → (c : ℕ) × (recorded : List Entry) × (x ≡ ended c recorded)
+      go : (x : Search) → Over s (whole s a) x → (c : ℕ) × (recorded : List Entry) × (x ≡ ended c recorded)
       go x (at-end {c = c} {recorded = recorded} h) = (c, recorded, refl)
 
   pub bound-call : BoundCall s r
@@ -60,9 +61,9 @@ module _ (s : Sheet) (r : BoundReply) (equal : r ≡ bound-reply (bound s)) wher
       record {
         equal = equal;
         figure = figure-of;
-        no-more-rounds = λ most e k. let (a, is) = given-so most e in rw is (no-more-rounds s a k);
+        no-more-rounds = λ most e k. let (a, is) = given-so most e in rw is (no-more-rounds s (whole s a) k);
         ends = λ most e k l. let (a, is) = given-so most e in has-ended a k (omega arith);
-        no-more-pairs = λ most e k. let (a, is) = given-so most e in rw is (no-more-pairs s a k);
+        no-more-pairs = λ most e k. let (a, is) = given-so most e in rw is (no-more-pairs s (whole s a) k);
         room = λ most e pairs. let (a, is) = given-so most e in (λ h. omega arith, λ h. omega arith);
         refuses = rw equal (bound-refuses s .among);
         returns-zero = rw equal (bound-refuses s .as-any .returns-zero);

@@ -17,7 +17,7 @@ use Rattle.model.specs.declared.CheckReply.the-variants as checking
 use Rattle.rounds.specs.ChosenPair.{Unbeaten}
 use Rattle.rounds.specs.Areas.{ListRoom}
 use Rattle.rounds.specs.Checking.{check-to, check-reply}
-use Rattle.front.specs.Front.{Front}
+use Rattle.rounds.specs.ListedPairs.{Front}
 use Rattle.planner.specs.InAreas.{pairs-in}
 use Rattle.checker.specs.Checking.{IsSchedule, CheckingCall}
 use Rattle.exported.specs.Exported.{no-cause, causeOf}

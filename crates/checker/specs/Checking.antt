@@ -20,7 +20,7 @@ use Rattle.rounds.specs.ChosenPair.{Unbeaten}
 use Rattle.rounds.specs.Areas.{ListRoom}
 use Rattle.rounds.specs.Checking.{check-to}
 use Rattle.rounds.specs.Told.{CheckTold}
-use Rattle.front.specs.Front.{Front}
+use Rattle.rounds.specs.ListedPairs.{Front}
 use Rattle.planner.specs.InAreas.{pairs-in}
 use Rattle.foreign.specs.Gathered.{gathered}
 use Rattle.foreign.specs.declared.Given.{Given}

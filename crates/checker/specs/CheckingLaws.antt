@@ -24,7 +24,8 @@ use Rattle.rounds.specs.AreaLaws.{decides-list-room}
 use Rattle.rounds.specs.Checking.{Verdict, among, check, check-to, check-reply, check-left}
 use Rattle.rounds.specs.CheckingLaws.{Judged, wrong-rows, rule-broken, yes, judged, check-refuses, check-as-found}
 use Rattle.rounds.specs.Told.{CheckTold}
-use Rattle.front.specs.Front.{Front, listed-is-front, SaidYes, says-yes, says-yes-to, listed-unbeaten}
+use Rattle.rounds.specs.ListedPairs.{Front}
+use Rattle.front.specs.Front.{listed-is-front, SaidYes, says-yes, says-yes-to, listed-unbeaten}
 use Rattle.planner.specs.InAreas.{pairs-in}
 use Rattle.planner.specs.InAreasLaws.{pairs-read}
 use Rattle.room.specs.CallLaws.{passed, passes, answer-granted, accepted}

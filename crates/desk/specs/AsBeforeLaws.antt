@@ -21,6 +21,7 @@ use Rattle.rounds.specs.Areas.{PlanAreas, ListRoom, list-reply, pair-numbers, p
 use Rattle.rounds.specs.BoundLaws.{bound-most}
 use Rattle.rounds.specs.AreaLaws.{pair-numbers-length, plan-times-length}
 use Rattle.rounds.specs.EntryPlan.{EntryPlan, EntryBooked}
+use Rattle.rounds.specs.AimLaws.{whole}
 use Rattle.rounds.specs.ChosenLaws.{chosen-so}
 use Rattle.rounds.specs.ChoosingLaws.{booked-chosen, last-recorded-chosen}
 use Rattle.fields.specs.declared.NamePlaces.{NamePlaces}
@@ -35,8 +36,8 @@ use Rattle.desk.specs.AnswerBytes.{last-recorded, answer-bytes}
 pub last-planned : (s : Sheet) → Admitted s → {l : Listing} → list s ≡ given l → EntryPlan s (last-recorded s) × EntryBooked s (last-recorded s)
 last-planned s a {l} u =
     let wish = last-arrival-in (l .pairs) in
-    let is = last-recorded-chosen s a u in
-    (chosen-so s a wish is .plan, booked-chosen s a wish is)
+    let is = last-recorded-chosen s (whole s a) u in
+    (chosen-so s (whole s a) wish is .plan, booked-chosen s (whole s a) wish is)
 
 -- ---- the fronts of the areas are what was written
 

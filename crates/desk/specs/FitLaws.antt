@@ -19,6 +19,7 @@ use Rattle.model.specs.declared.Admission.the-variants as tests
 use Rattle.rounds.specs.Answers.{Answer, given, Listing, list}
 use Rattle.rounds.specs.Areas.{pair-numbers, time-numbers, plan-times}
 use Rattle.rounds.specs.AreaLaws.{pair-numbers-length, plan-times-length}
+use Rattle.rounds.specs.AimLaws.{whole}
 use Rattle.rounds.specs.AnswerLaws.{Answered, no-schedule, listing, answered}
 use Rattle.rounds.specs.ScheduleLaws.{SmallPair}
 use Rattle.rounds.specs.SizeLaws.{list-sizes, plan-sizes}
@@ -96,9 +97,9 @@ module _ (text : List ℕ) (names : NamePlaces) (named : NamesLie text names) (s
       })
 
   answer-short : length (answer-bytes text names s (list s)) ≤ most-printed
-  answer-short = go (list s) (answered s a) refl
+  answer-short = go (list s) (answered s (whole s a)) refl
     where
-      go : (x : Answer Listing) → Answered s x → list s ≡ x → length (answer-bytes text names s x) ≤ most-printed
+      go : (x : Answer Listing) → Answered s (whole s a) x → list s ≡ x → length (answer-bytes text names s x) ≤ most-printed
       go x (no-schedule none) u = omega (arith, refusal-line-short NoSchedule (omega arith))
       go x (listing {l = l} h) u = listing-short l u
 

@@ -12,6 +12,7 @@ use Rattle.model.specs.Admission.{Admitted}
 use Rattle.model.specs.declared.ListReply.the-variants.{Listed}
 use Rattle.rounds.specs.Answers.{Answer, refused, given, Listing, list, last-arrival-in}
 use Rattle.rounds.specs.Areas.{PlanAreas, PlanRoom, list-room, list-to, choose-to, list-reply, list-left, pair-numbers}
+use Rattle.rounds.specs.AimLaws.{whole}
 use Rattle.rounds.specs.ChoosingLaws.{last-recorded-chosen}
 use Rattle.planner.specs.InAreas.{pairs-in}
 use Rattle.planner.specs.InAreasLaws.{pairs-read}
@@ -61,4 +62,4 @@ module _ (s : Sheet) (count rounds : ℕ) (pairs found : List ℤ) (h : HasListe
   pub last-answered : choose-to s (last-arrival-in (pairs-in count pairs)) lent ≡ given (last-recorded s)
   last-answered =
       choice-of-rounds s (last-arrival-in (pairs-in count pairs)) lent (h .admitted) has-room
-      ∙ rw (pairs-listed s count rounds pairs found h) (last-recorded-chosen s (h .admitted) (h .is))
+      ∙ rw (pairs-listed s count rounds pairs found h) (last-recorded-chosen s (whole s (h .admitted)) (h .is))

@@ -14,6 +14,7 @@ use Rattle.model.specs.Lateness.{Pair}
 use Rattle.rounds.specs.Answers.{last-arrival-in}
 use Rattle.rounds.specs.Areas.{pair-numbers}
 use Rattle.rounds.specs.AreaLaws.{pair-numbers-length}
+use Rattle.rounds.specs.AimLaws.{whole}
 use Rattle.rounds.specs.AnswerLaws.{listed-so}
 use Rattle.rounds.specs.ListLaws.{last-arrival-at}
 use Rattle.rounds.specs.SizeLaws.{list-sizes}
@@ -54,7 +55,7 @@ module _ (s : Sheet) (count rounds : ℕ) (pairs found : List ℤ) (h : HasListe
   pub wished-last : (wish : ℕ) → ForLast count pairs wish → wish ≡ last-arrival-in (pairs-in count pairs)
   wished-last wish w =
       let ps = h .listing .pairs in
-      let some = listed-so s (h .admitted) (h .is) .not-empty in
+      let some = listed-so s (whole s (h .admitted)) (h .is) .not-empty in
       let small = list-sizes s (h .admitted) (h .is) .pairs-small (length ps - 1) (omega (arith, some)) .last in
       let in-range : last-arrival-in ps ≤ last-arrival = rw (← (last-arrival-at ps some)) small in
       last-read ps some in-range count (h .many) pairs found (h .area) wish w ∙ ap last-arrival-in (sym (pairs-listed s count rounds pairs found h))

@@ -20,7 +20,8 @@ use Rattle.rounds.specs.Prompt.{Prompt}
 use Rattle.rounds.specs.ChosenPair.{Best, TooEarly}
 use Rattle.rounds.specs.RoundsBound.{rounds-bound}
 use Rattle.rounds.specs.Areas.{ListRoom, list-to, list-reply, PlanAreas, PlanRoom, choose-to, choice-reply}
-use Rattle.front.specs.Front.{Front, ChosenListed}
+use Rattle.rounds.specs.ListedPairs.{Front}
+use Rattle.front.specs.Front.{ChosenListed}
 use Rattle.planner.specs.Listing.{ListingCall}
 use Rattle.planner.specs.Choosing.{ChoosingCall}
 use Rattle.planner.specs.InAreas.{pairs-in, plan-in}

@@ -12,7 +12,7 @@ use Rattle.model.specs.declared.ChoiceReply.{ChoiceReply}
 use Rattle.model.specs.declared.ChoiceReply.the-variants as choosing
 use Rattle.rounds.specs.RoundsBound.{rounds-bound}
 use Rattle.rounds.specs.Areas.{PlanAreas}
-use Rattle.front.specs.Front.{Front}
+use Rattle.rounds.specs.ListedPairs.{Front}
 use Rattle.planner.specs.Listing.{ListingCall}
 use Rattle.planner.specs.Choosing.{Gives, ChoosingCall}
 use Rattle.planner.specs.InAreas.{pairs-in}

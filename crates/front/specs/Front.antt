@@ -8,13 +8,11 @@ use mathlib.Core.List.{List}
 use Prim.Native.Nat.{ℕ, _+_, _≤_, _<_}
 use lib.IntN.{ℤ}
 use lib.ListN.{length}
-use lib.Signed.{_<ℤ_}
-use Rattle.numbers.specs.Counting.{at, nth, count}
+use Rattle.numbers.specs.Counting.{at, count}
 use Rattle.numbers.specs.DecidesLaws.{test-means}
 use Rattle.model.specs.Sheet.{Sheet, places}
 use Rattle.model.specs.Schedule.{Schedule}
-use Rattle.model.specs.Arrival.{arrival}
-use Rattle.model.specs.Lateness.{Pair, pairOf, AtLeastAsGood, pair-at}
+use Rattle.model.specs.Lateness.{Pair, pairOf, pair-at}
 use Rattle.model.specs.Limits.{most-pairs}
 use Rattle.model.specs.Foreign.{RowsFit, trains-told, RowsTell, rows-of}
 use Rattle.model.specs.ShortTrains.{FullSchedule}
@@ -24,22 +22,23 @@ use Rattle.model.specs.declared.Refusal.the-variants.{NoSchedule, WishTooEarly,
 use Rattle.model.specs.declared.RoundReply.the-variants.{GoesOn}
 use Rattle.rounds.specs.Loading.{free, take-orders}
 use Rattle.rounds.specs.LoadingLaws.{decides-free, takes-all}
-use Rattle.rounds.specs.Timing.{stopped, timed}
+use Rattle.rounds.specs.Timing.{stopped}
 use Rattle.rounds.specs.Recording.{Entry, listed, entry-at, last-entry, recorded-arrival}
 use Rattle.rounds.specs.EntryPlan.{EntryPlan, EntryBooked, EntryEmptyTrains, EntryPrompt}
+use Rattle.rounds.specs.ListedPairs.{Front}
 use Rattle.rounds.specs.ChosenPair.{LastInTime, Best, TooEarly, Unbeaten}
-use Rattle.rounds.specs.Rounds.{going, ended, rounds-in, recorded-in, start, loading, times, first-timing, rounds, recorded-after, search}
+use Rattle.rounds.specs.Rounds.{going, ended, rounds-in, recorded-in, start, loading, first-timing, rounds, recorded-after, search}
 use Rattle.rounds.specs.RoundsBound.{rounds-bound}
 use Rattle.rounds.specs.Answers.{refused, given, Listing, list, last-arrival-in, last-listed, choose}
 use Rattle.rounds.specs.Areas.{list-left, plan-left}
 use Rattle.rounds.specs.Checking.{Verdict, check}
 use Rattle.rounds.specs.ByRound.{SearchAreas, Calls, then-round, then-look, round-calls, Then, search-by, seen, end-of, said, last-plan, areas-by, Final}
-use Rattle.rounds.specs.PairListLaws.{apart}
 use Rattle.rounds.specs.ShortTrainLaws.{as-exactly}
-use Rattle.rounds.specs.OneRoundLaws.{every-order-loaded}
-use Rattle.rounds.specs.InvariantLaws.{entry-plans, entry-booked, entry-empty-trains, entry-prompt, reached, earliest-plan, search-at-end}
+use Rattle.rounds.specs.AimLaws.{whole}
+use Rattle.rounds.specs.OneRoundLaws.{loaded}
+use Rattle.rounds.specs.InvariantLaws.{entry-plans, entry-booked, entry-empty-trains, empty-at-once, entry-prompt, reached, search-at-end}
 use Rattle.rounds.specs.ArrivalLaws as arrivals
-use Rattle.rounds.specs.AnswerLaws.{listed-so, listed-otherwise, eight-means, eight-given, eight-stops, ends-within}
+use Rattle.rounds.specs.AnswerLaws.{listed-so, front-listed, listed-otherwise, eight-means, eight-given, eight-stops, ends-within}
 use Rattle.rounds.specs.ChosenLaws.{choice-best, chosen-so, eleven-chosen, eleven-before-first}
 use Rattle.rounds.specs.ChoosingLaws.{booked-chosen, empty-chosen, prompt-chosen, eight-chosen, eight-chosen-stops, listed-chosen, last-recorded-chosen}
 use Rattle.rounds.specs.CheckingLaws.{yes-so, yes-unbeaten, yes-given, twelve-given, thirteen-given, own-plan, own-rows}
@@ -52,61 +51,47 @@ use Rattle.rounds.specs.BoundLaws as bounds
 
 -- "no schedule": 8 is given exactly when there is none
 pub no-schedule : (s : Sheet) → Admitted s → list s ≡ refused NoSchedule ↔ ((train departure : List ℕ) → ¬ Schedule s train departure)
-no-schedule s a = (eight-means s a, eight-given s a)
+no-schedule s a = (eight-means s (whole s a), eight-given s (whole s a))
 
 -- "(step 2 stops round 1)": and exactly when that is so
 pub first-stop : (s : Sheet) → Admitted s → list s ≡ refused NoSchedule ↔ (first-timing s ≡ stopped)
-first-stop s a = eight-stops s a
-
-pub record Front (s : Sheet) (pairs : List Pair) : Type 0 where
-  -- each listed pair is the pair of a schedule
-  pub belongs : (k : ℕ) → k < length pairs
-      → (train : List ℕ) × (departure : List ℕ) × Schedule s train departure × (pairOf s train departure ≡ pair-at pairs k)
-  -- for each schedule a pair is listed that is at least as good on both counts
-  pub covers : (train departure : List ℕ) → Schedule s train departure
-      → (k : ℕ) × (k < length pairs) × AtLeastAsGood (pair-at pairs k) (pairOf s train departure)
-  -- no listed pair is at least as good as another
-  pub distinct : (i k : ℕ) → i < length pairs → k < length pairs → ¬ (i ≡ k) → ¬ AtLeastAsGood (pair-at pairs i) (pair-at pairs k)
-  -- "the pairs in order of arrival"
-  pub by-arrival : (i k : ℕ) → i < k → k < length pairs → pair-at pairs i .last < pair-at pairs k .last
+first-stop s a = eight-stops s (whole s a)
 
 -- what is listed is the front
 pub listed-is-front : (s : Sheet) → Admitted s → {l : Listing} → list s ≡ given l → Front s (l .pairs)
-listed-is-front s a {l} e =
-    let h = listed-so s a e in
-    record { belongs = h .belong; covers = h .cover; distinct = apart (l .pairs) (h .rise); by-arrival = λ i k u v. h .rise i k u v .earlier }
+listed-is-front s a e = front-listed s (whole s a) e
 
 -- "Otherwise": where there is a schedule the front is listed, and nothing stands before it (document 02, No. 6: "the best-list guarantee loses that premise")
 pub front-is-listed : (s : Sheet) → Admitted s → (train departure : List ℕ) → Schedule s train departure
     → (l : Listing) × (list s ≡ given l) × Front s (l .pairs)
-front-is-listed s a train departure h = let (l, e) = listed-otherwise s a train departure h in (l, e, listed-is-front s a e)
+front-is-listed s a train departure h = let (l, e) = listed-otherwise s (whole s a) train departure h in (l, e, listed-is-front s a e)
 
 -- ---- what is recorded
 
 -- of each recorded entry, after any number of rounds, the plan is a schedule whose pair it is
 pub recorded-plans : (s : Sheet) → Admitted s → (k m : ℕ) → m < length (recorded-after s k)
     → EntryPlan s (entry-at (recorded-after s k) m)
-recorded-plans s a k = entry-plans s a k
+recorded-plans s a k = entry-plans s (whole s a) k
 
 -- document 02, No. 2: and its windows are those of its departures
 pub recorded-booked : (s : Sheet) → Admitted s → (k m : ℕ) → m < length (recorded-after s k)
     → EntryBooked s (entry-at (recorded-after s k) m)
-recorded-booked s a k = entry-booked s a k
+recorded-booked s a k = entry-booked s (whole s a) k
 
 -- the arrival of the pair recorded last never falls from round to round
 pub arrivals-never-fall : (s : Sheet) → Admitted s → (k : ℕ)
     → recorded-arrival (recorded-after s k) ≤ recorded-arrival (recorded-after s (k + 1))
-arrivals-never-fall s a k = arrivals.arrivals-never-fall s a k
+arrivals-never-fall s a k = arrivals.arrivals-never-fall s (whole s a) k
 
 -- ---- document 02, No. 1: the plan for a wished last arrival
 
 -- "A chosen plan is a schedule", and the pair chosen is its own
 pub chosen-plan : (s : Sheet) → Admitted s → (wish : ℕ) {e : Entry} → choose s wish ≡ given e → EntryPlan s e
-chosen-plan s a wish u = chosen-so s a wish u .plan
+chosen-plan s a wish u = chosen-so s (whole s a) wish u .plan
 
 -- document 02, No. 2, "The window of each departure": of a chosen plan too
 pub chosen-booked : (s : Sheet) → Admitted s → (wish : ℕ) {e : Entry} → choose s wish ≡ given e → EntryBooked s e
-chosen-booked s a wish u = booked-chosen s a wish u
+chosen-booked s a wish u = booked-chosen s (whole s a) wish u
 
 -- "the last listed pair not later than it"
 pub record ChosenListed (s : Sheet) (wish : ℕ) (p : Pair) : Type 0 where
@@ -115,38 +100,38 @@ pub record ChosenListed (s : Sheet) (wish : ℕ) (p : Pair) : Type 0 where
   pub last : LastInTime wish (listing .pairs) p
 
 pub chosen-listed : (s : Sheet) → Admitted s → (wish : ℕ) {e : Entry} → choose s wish ≡ given e → ChosenListed s wish (e .pair)
-chosen-listed s a wish u = let h = chosen-so s a wish u in record { listing = h .listing; is-list = h .is-list; last = h .last }
+chosen-listed s a wish u = let h = chosen-so s (whole s a) wish u in record { listing = h .listing; is-list = h .is-list; last = h .last }
 
 -- "and none that arrives in time has a smaller worst lateness"
 pub chosen-best : (s : Sheet) → Admitted s → (wish : ℕ) {e : Entry} → choose s wish ≡ given e → Best s wish (e .pair)
-chosen-best s a wish {e} u = choice-best s wish e (chosen-so s a wish u)
+chosen-best s a wish {e} u = choice-best s (whole s a) wish e (chosen-so s (whole s a) wish u)
 
 -- a wish for a listed arrival gives the plan of that very pair
 pub that-very-pair : (s : Sheet) → Admitted s → {l : Listing} → list s ≡ given l → (k : ℕ) → k < length (l .pairs)
     → (e : Entry) × (choose s (pair-at (l .pairs) k .last) ≡ given e) × (e .pair ≡ pair-at (l .pairs) k)
-that-very-pair s a u = listed-chosen s a u
+that-very-pair s a u = listed-chosen s (whole s a) u
 
 -- demand 2, "in the last recorded plan": it is chosen where the wish is for the last listed arrival
 pub last-plan-chosen : (s : Sheet) → Admitted s → {l : Listing} → list s ≡ given l
     → choose s (last-arrival-in (l .pairs)) ≡ given (last-entry (recorded-in (search s)))
-last-plan-chosen s a u = last-recorded-chosen s a u
+last-plan-chosen s a u = last-recorded-chosen s (whole s a) u
 
 -- "its words on 8 hold for both"
 pub no-schedule-chosen : (s : Sheet) → Admitted s → (wish : ℕ)
     → choose s wish ≡ refused NoSchedule ↔ ((train departure : List ℕ) → ¬ Schedule s train departure)
-no-schedule-chosen s a wish = eight-chosen s a wish
+no-schedule-chosen s a wish = eight-chosen s (whole s a) wish
 
 pub first-stop-chosen : (s : Sheet) → Admitted s → (wish : ℕ) → choose s wish ≡ refused NoSchedule ↔ (first-timing s ≡ stopped)
-first-stop-chosen s a wish = eight-chosen-stops s a wish
+first-stop-chosen s a wish = eight-chosen-stops s (whole s a) wish
 
 -- "11, the wished arrival is before the first listed one"
 pub before-the-first : (s : Sheet) → Admitted s → (wish : ℕ) {l : Listing} → list s ≡ given l
     → choose s wish ≡ refused WishTooEarly ↔ (wish < pair-at (l .pairs) 0 .last)
-before-the-first s a wish u = eleven-before-first s a wish u
+before-the-first s a wish u = eleven-before-first s (whole s a) wish u
 
 -- that is when there is a schedule, and none arrives by the wish
 pub wish-too-early : (s : Sheet) → Admitted s → (wish : ℕ) → choose s wish ≡ refused WishTooEarly ↔ TooEarly s wish
-wish-too-early s a wish = eleven-chosen s a wish
+wish-too-early s a wish = eleven-chosen s (whole s a) wish
 
 -- ---- document 02, No. 3: plans from other firms
 
@@ -250,35 +235,41 @@ pub takes-them-all : (s : Sheet) (latest train : List ℕ) (i : ℕ) → 1 ≤ i
 takes-them-all s latest train i p len none few j l e =
     takes-all (s .orders) (s .release) latest i p (s .capacity i) train len none few j l (test-means (decides-free latest train i j) e)
 
+-- and where trains run short too, each round of a search loads every order: the next one of a search that goes on after k rounds
+pub every-loaded : (s : Sheet) → Admitted s → (k c : ℕ) (latest : List ℕ) (y : ℤ) (recorded : List Entry)
+    → rounds s k (start s) ≡ going c latest y recorded
+    → (j : ℕ) → j < s .orders → (1 ≤ at (loading s latest) j) × (at (loading s latest) j ≤ s .trains)
+every-loaded s a k c latest y recorded now = loaded s (whole s a) k c latest y recorded (reached s (whole s a) k c latest y recorded now)
+
 -- "an empty train waits only for its gap and window": in each recorded plan, after any number of rounds, and in a chosen one
 pub recorded-empty-trains : (s : Sheet) → Admitted s → (k m : ℕ) → m < length (recorded-after s k)
     → EntryEmptyTrains s (entry-at (recorded-after s k) m)
-recorded-empty-trains s a k = entry-empty-trains s a k
+recorded-empty-trains s a k m l = empty-at-once s a (entry-at (recorded-after s k) m) (entry-empty-trains s (whole s a) k m l)
 
 pub chosen-empty-trains : (s : Sheet) → Admitted s → (wish : ℕ) {e : Entry} → choose s wish ≡ given e → EntryEmptyTrains s e
-chosen-empty-trains s a wish u = empty-chosen s a wish u
+chosen-empty-trains s a wish {e} u = empty-at-once s a e (empty-chosen s (whole s a) wish u)
 
 -- ---- document 02, No. 6: the list's length known beforehand
 
 -- the rounds end by themselves, within the figure, those of a search that gives 8 too
 pub search-ends : (s : Sheet) → Admitted s → (c : ℕ) × (recorded : List Entry) × (search s ≡ ended c recorded) × (c ≤ rounds-bound s)
-search-ends s a = ends-within s a
+search-ends s a = ends-within s (whole s a)
 
 -- and wherever they end, that end is the search: the figure in its definition cuts nothing off
 pub search-is-end : (s : Sheet) → Admitted s → (k c : ℕ) (recorded : List Entry) → rounds s k (start s) ≡ ended c recorded → search s ≡ ended c recorded
-search-is-end s a k c recorded e = search-at-end s a k c recorded e
+search-is-end s a k c recorded e = search-at-end s (whole s a) k c recorded e
 
 -- "no search makes more rounds than that, and lists no more pairs", after however many rounds it is looked at
 pub no-more-rounds : (s : Sheet) → Admitted s → (k : ℕ) → rounds-in (rounds s k (start s)) ≤ rounds-bound s
-no-more-rounds s a k = bounds.no-more-rounds s a k
+no-more-rounds s a k = bounds.no-more-rounds s (whole s a) k
 
 pub no-more-pairs : (s : Sheet) → Admitted s → (k : ℕ) → length (listed (recorded-after s k)) ≤ rounds-bound s
-no-more-pairs s a k = bounds.no-more-pairs s a k
+no-more-pairs s a k = bounds.no-more-pairs s (whole s a) k
 
 -- and so of the list
 pub list-within : (s : Sheet) → Admitted s → {l : Listing} → list s ≡ given l
     → (l .rounds ≤ rounds-bound s) × (length (l .pairs) ≤ rounds-bound s)
-list-within s a e = let h = listed-so s a e in (h .few-rounds, h .few-pairs)
+list-within s a e = let h = listed-so s (whole s a) e in (h .few-rounds, h .few-pairs)
 
 -- no sheet has a greater figure than 5,985
 pub bound-most : (s : Sheet) → Admitted s → rounds-bound s ≤ most-pairs
@@ -290,31 +281,12 @@ bound-most s a = bounds.bound-most s a
 -- "For each plan that a window sheet gives": of each recorded one, after any number of rounds; "Empty places are covered too"
 pub recorded-prompt : (s : Sheet) → Admitted s → (k m : ℕ) → m < length (recorded-after s k)
     → EntryPrompt s (entry-at (recorded-after s k) m)
-recorded-prompt s a k = entry-prompt s a k
+recorded-prompt s a k = entry-prompt s (whole s a) k
 
 -- "and so are plans chosen by a wished arrival"
 pub chosen-prompt : (s : Sheet) → Admitted s → (wish : ℕ) {e : Entry} → choose s wish ≡ given e → EntryPrompt s e
-chosen-prompt s a wish u = prompt-chosen s a wish u
+chosen-prompt s a wish u = prompt-chosen s (whole s a) wish u
 
 -- and so is the plan that stands in the areas of a search that is watched, after every list of calls
 pub watched-prompt : (s : Sheet) → Admitted s → (calls : Calls) (e : Entry) → last-plan (recorded-in (search-by s calls)) ≡ given e → EntryPrompt s e
-watched-prompt s a calls e u = last-plan-so s (EntryPrompt s) (entry-prompt s a) calls e u
-
--- ---- a search that goes on after k rounds. It loads every order, where trains run short too
-
-module _ (s : Sheet) (a : Admitted s) (k c : ℕ) (latest : List ℕ) (y : ℤ) (recorded : List Entry) (now : rounds s k (start s) ≡ going c latest y recorded) where
-  -- the next round loads every order, on a train from 1 to q
-  pub every-loaded : (j : ℕ) → j < s .orders → (1 ≤ at (loading s latest) j) × (at (loading s latest) j ≤ s .trains)
-  every-loaded = let g = reached s a k c latest y recorded now in every-order-loaded s latest (g .upto) (g .fits)
-
-  -- every schedule whose worst lateness is below the limit y keeps to the latest trains
-  pub keeps : (train departure : List ℕ) → Schedule s train departure → pairOf s train departure .worst <ℤ y
-      → (j : ℕ) → j < s .orders → at train j ≤ at latest j
-  keeps = reached s a k c latest y recorded now .keeps
-
-  -- the plan of the next round, with departures S and arrivals F, departs and arrives, train by train, no later than any schedule that keeps to the latest
-  -- trains
-  pub earliest : (S F window : List ℕ) → times s (loading s latest) ≡ timed S F window
-      → (train departure : List ℕ) → Schedule s train departure → ((j : ℕ) → j < s .orders → at train j ≤ at latest j)
-      → (i : ℕ) → 1 ≤ i → i ≤ s .trains → (nth S i ≤ nth departure i) × (nth F i ≤ arrival (s .paths) (nth departure) i)
-  earliest = earliest-plan s a k c latest y recorded (reached s a k c latest y recorded now)
+watched-prompt s a calls e u = last-plan-so s (EntryPrompt s) (entry-prompt s (whole s a)) calls e u

@@ -18,6 +18,7 @@ use Rattle.rounds.specs.Recording.{Entry, record-entry, no-entry, recorded-arri
 use Rattle.rounds.specs.RecordingLaws.{record-last}
 use Rattle.rounds.specs.EntryPlan.{EntryPlan}
 use Rattle.rounds.specs.Rounds.{start, rounds}
+use Rattle.rounds.specs.AimLaws.{whole}
 use Rattle.rounds.specs.InvariantLaws.{entry-plans}
 use Rattle.rounds.specs.Answers.{Answer, chosen, choose}
 use Rattle.rounds.specs.Areas.{PlanAreas, plan-times}
@@ -49,7 +50,7 @@ module _ (s : Sheet) (a : Admitted s) (wish : ℕ) where
   own-plan p r is =
       let e = shown-entry s r in
       let (before, u) = record-last (recorded-now s p) e in
-      all-new no-entry before e (EntryPlan s) (subst (All no-entry (EntryPlan s)) (is ∙ u) (entry-plans s a (r .rounds)))
+      all-new no-entry before e (EntryPlan s) (subst (All no-entry (EntryPlan s)) (is ∙ u) (entry-plans s (whole s a) (r .rounds)))
 
   -- of the same entries and the same arrival the same is held
   held : {choice : ChoiceReply} {left found : PlanAreas} {last last′ : ℕ} {entries entries′ : List Entry} → last ≡ last′ → entries ≡ entries′
@@ -71,7 +72,7 @@ module _ (s : Sheet) (a : Admitted s) (wish : ℕ) where
         → Holds s wish (Chosen (r .last) (r .limit)) (areas trains times) found (r .last) (recorded-now s r)
     choice-taken is timely trains times trains-are times-are =
         rw is
-        (takes s wish choice left found (p .last) (recorded-now s p) h early (shown-entry s r) timely (own-plan p r is) (entry-plans s a (p .rounds))
+        (takes s wish choice left found (p .last) (recorded-now s p) h early (shown-entry s r) timely (own-plan p r is) (entry-plans s (whole s a) (p .rounds))
         trains times trains-are times-are)
 
     -- a plan that is not better, or late
@@ -99,5 +100,5 @@ module _ (s : Sheet) (a : Admitted s) (wish : ℕ) where
     where
       settled : (p .ended ≡ true) ⊎ (wish < p .last) → choose s wish ≡ chosen wish (recorded-now s p)
       settled (inl over) =
-          choice-at-end s a wish (p .rounds) (p .rounds) (recorded-now s p) (over-means s p (rounds s (p .rounds) (start s)) running over)
-      settled (inr late) = choice-settled s a wish (p .rounds) (omega (arith, running .last))
+          choice-at-end s (whole s a) wish (p .rounds) (p .rounds) (recorded-now s p) (over-means s p (rounds s (p .rounds) (start s)) running over)
+      settled (inr late) = choice-settled s (whole s a) wish (p .rounds) (omega (arith, running .last))

@@ -28,6 +28,7 @@ use Rattle.rounds.specs.ChosenPair.{TooEarly}
 use Rattle.rounds.specs.Answers.{Answer, refused, given, choose}
 use Rattle.rounds.specs.Areas.{PlanAreas, PlanRoom, plan-room, tested, choose-to, choice-reply, plan-left}
 use Rattle.rounds.specs.AreaLaws.{decides-plan-room, choice-refuses, plan-as-found}
+use Rattle.rounds.specs.AimLaws.{whole}
 use Rattle.rounds.specs.ChoiceLaws.{Chose, no-schedule, too-early, choice, chose}
 use Rattle.rounds.specs.Told.{ChoiceTold}
 use Rattle.front.specs.Front.{chosen-plan, chosen-booked, chosen-empty-trains, chosen-prompt, chosen-listed, chosen-best, no-schedule-chosen, wish-too-early}
@@ -65,13 +66,13 @@ module _ (s : Sheet) (a : Admitted s) (wish : ℕ) where
   abbrev told-number : Answer Entry → ℕ
   told-number x = numberOf (of-choice (choice-reply x))
 
-  by-eight : (x : Answer Entry) → Chose s wish x → told-number x ≡ 8 → x ≡ refused NoSchedule
+  by-eight : (x : Answer Entry) → Chose s (whole s a) wish x → told-number x ≡ 8 → x ≡ refused NoSchedule
   unfolding choice-reply
   by-eight x (no-schedule none) e = refl
   by-eight x (too-early h) e = absurd (omega arith)
   by-eight x (choice h) e = absurd (omega arith)
 
-  by-eleven : (x : Answer Entry) → Chose s wish x → told-number x ≡ 11 → x ≡ refused WishTooEarly
+  by-eleven : (x : Answer Entry) → Chose s (whole s a) wish x → told-number x ≡ 11 → x ≡ refused WishTooEarly
   unfolding choice-reply
   by-eleven x (no-schedule none) e = absurd (omega arith)
   by-eleven x (too-early h) e = refl
@@ -81,13 +82,13 @@ module _ (s : Sheet) (a : Admitted s) (wish : ℕ) where
   unfolding choice-reply
   eight-chosen =
       let (means, gives) = no-schedule-chosen s a wish in
-      (λ e. means (by-eight (choose s wish) (chose s wish a) e), λ f. ap told-number (gives f))
+      (λ e. means (by-eight (choose s wish) (chose s (whole s a) wish) e), λ f. ap told-number (gives f))
 
   eleven-chosen : told-number (choose s wish) ≡ 11 ↔ TooEarly s wish
   unfolding choice-reply
   eleven-chosen =
       let (means, gives) = wish-too-early s a wish in
-      (λ e. means (by-eleven (choose s wish) (chose s wish a) e), λ f. ap told-number (gives f))
+      (λ e. means (by-eleven (choose s wish) (chose s (whole s a) wish) e), λ f. ap told-number (gives f))
 
 module _ (s : Sheet) (wish : ℕ) (r : ChoiceReply) (left found : PlanAreas) (told : ChoiceTold s (choose-to s wish found) r left found) where
   -- an accepted call's entry: the sheet is admitted, the rounds give it, its pair is the one given, and its plan is in the areas

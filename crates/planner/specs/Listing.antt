@@ -13,7 +13,7 @@ use Rattle.model.specs.declared.ListReply.the-variants.{Listed}
 use Rattle.rounds.specs.RoundsBound.{rounds-bound}
 use Rattle.rounds.specs.Areas.{ListRoom, list-to}
 use Rattle.rounds.specs.Told.{ListTold}
-use Rattle.front.specs.Front.{Front}
+use Rattle.rounds.specs.ListedPairs.{Front}
 use Rattle.planner.specs.InAreas.{pairs-in}
 
 pub record ListingCall (s : Sheet) (r : ListReply) (left found : List ℤ) : Type 0 where

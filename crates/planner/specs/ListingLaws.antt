@@ -21,9 +21,11 @@ use Rattle.rounds.specs.Answers.{Answer, refused, given, Listing, list}
 use Rattle.rounds.specs.RoundsBound.{rounds-bound}
 use Rattle.rounds.specs.Areas.{ListRoom, list-room, tested, list-to, list-reply, pair-numbers, list-left}
 use Rattle.rounds.specs.AreaLaws.{decides-list-room, list-refuses, list-as-found}
+use Rattle.rounds.specs.AimLaws.{whole}
 use Rattle.rounds.specs.AnswerLaws.{Answered, no-schedule, listing, answered}
 use Rattle.rounds.specs.Told.{ListTold}
-use Rattle.front.specs.Front.{Front, listed-is-front, front-is-listed, list-within}
+use Rattle.rounds.specs.ListedPairs.{Front}
+use Rattle.front.specs.Front.{listed-is-front, front-is-listed, list-within}
 use Rattle.planner.specs.InAreas.{pairs-in}
 use Rattle.planner.specs.InAreasLaws.{pairs-read}
 use Rattle.room.specs.CallLaws.{passed, passes, answer-granted, accepted, told-first, told-then}
@@ -51,9 +53,10 @@ module _ (s : Sheet) (lent : List ℤ) (t : Admission) (is : t ≡ tested s (lis
 -- of an admitted sheet the rounds answer with number 8 exactly when there is no schedule
 eight-listed : (s : Sheet) → Admitted s → numberOf (of-listing (list-reply (list s))) ≡ 8 ↔ ((train departure : List ℕ) → ¬ Schedule s train departure)
 unfolding list-reply
-eight-listed s a = go (list s) (answered s a)
+eight-listed s a = go (list s) (answered s (whole s a))
   where
-    go : (x : Answer Listing) → Answered s x → numberOf (of-listing (list-reply x)) ≡ 8 ↔ ((train departure : List ℕ) → ¬ Schedule s train departure)
+    go : (x : Answer Listing) → Answered s (whole s a) x
+        → numberOf (of-listing (list-reply x)) ≡ 8 ↔ ((train departure : List ℕ) → ¬ Schedule s train departure)
     go x (no-schedule none) = (λ e. none, λ f. refl)
     go x (listing l) =
         let (train, departure, h, own) = l .belong 0 (l .not-empty) in (λ e. absurd (omega arith), λ none. absurd (none train departure h))

@@ -13,8 +13,9 @@ use Rattle.rounds.specs.Recording.{Entry, record-entry, listed}
 use Rattle.rounds.specs.RecordingLaws.{listed-length}
 use Rattle.rounds.specs.Rounds.{start, rounds}
 use Rattle.rounds.specs.RoundsBound.{rounds-bound}
+use Rattle.rounds.specs.AimLaws.{whole}
 use Rattle.rounds.specs.InvariantLaws.{search-at-end}
-use Rattle.rounds.specs.Answers.{list-of, list}
+use Rattle.rounds.specs.Answers.{list-of, list-from, list}
 use Rattle.rounds.specs.Areas.{list-reply, pair-numbers, list-left}
 use Rattle.rounds.specs.Told.{ListTold}
 use Rattle.recording.specs.Recorded.{held-list, Lists, ListsMore}
@@ -83,8 +84,8 @@ module _ (s : Sheet) where
 
   pub list-ended : Admitted s → (p : Progress) (count : ℕ) (area found : List ℤ) → Running s p → p .ended ≡ true
       → Lists found (held-list count (p .last) area) (recorded-now s p) → ListTold (list s) (listed-so count (p .rounds)) area found
-  unfolding list
+  unfolding list-from
   list-ended a p count area found h over lists =
       let end = over-means s p (rounds s (p .rounds) (start s)) h over in
-      let whole = search-at-end s a (p .rounds) (p .rounds) (recorded-now s p) end in
-      rw whole (told-listed (p .rounds) count (recorded-now s p) (p .last) area found lists)
+      let ended-so = search-at-end s (whole s a) (p .rounds) (p .rounds) (recorded-now s p) end in
+      rw ended-so (told-listed (p .rounds) count (recorded-now s p) (p .last) area found lists)

@@ -8,7 +8,8 @@ use Rattle.model.specs.Lateness.{Pair}
 use Rattle.model.specs.declared.Refusal.{Refusal}
 use Rattle.model.specs.declared.Refusal.the-variants.{NoSchedule, WishTooEarly}
 use Rattle.rounds.specs.Recording.{Entry, listed}
-use Rattle.rounds.specs.Rounds.{rounds-in, recorded-in, search}
+use Rattle.rounds.specs.Outset.{Outset, ordinary}
+use Rattle.rounds.specs.Rounds.{rounds-in, recorded-in, search-from}
 
 -- a refusal, or what the call gives
 pub data Answer (A : Type 0) : Type 0 where
@@ -27,9 +28,13 @@ unfolding listed
 list-of c [] = refused NoSchedule
 list-of c (e ∷ es) = given (record { pairs = listed (e ∷ es); rounds = c })
 
-unfoldable pub list : Sheet → Answer Listing
-unfolding list-of search
-list s = list-of (rounds-in (search s)) (recorded-in (search s))
+-- of the rounds from an outset; of document 01's rounds
+unfoldable pub list-from : Sheet → Outset → Answer Listing
+unfolding list-of search-from
+list-from s o = list-of (rounds-in (search-from s o)) (recorded-in (search-from s o))
+
+abbrev pub list : Sheet → Answer Listing
+list s = list-from s (ordinary s)
 
 -- the last listed arrival, for which the program `plan` wishes; 0 where nothing is listed
 unfoldable pub last-arrival-in : List Pair → ℕ
@@ -59,6 +64,10 @@ unfolding last-in-time
 chosen wish [] = refused NoSchedule
 chosen wish (e ∷ es) = cond (in-time wish e) (given (last-in-time wish e es)) (refused WishTooEarly)
 
-unfoldable pub choose : Sheet → (wish : ℕ) → Answer Entry
-unfolding chosen search
-choose s wish = chosen wish (recorded-in (search s))
+-- of the rounds from an outset; of document 01's rounds
+unfoldable pub choose-from : Sheet → Outset → (wish : ℕ) → Answer Entry
+unfolding chosen search-from
+choose-from s o wish = chosen wish (recorded-in (search-from s o))
+
+abbrev pub choose : Sheet → (wish : ℕ) → Answer Entry
+choose s = choose-from s (ordinary s)

@@ -18,8 +18,9 @@ use Rattle.model.specs.declared.Admission.the-variants as tests
 use Rattle.model.specs.declared.Refusal.{Refusal}
 use Rattle.model.specs.declared.Refusal.the-variants.{NoSchedule, AreaTooShort, WishTooEarly}
 use Rattle.rounds.specs.Recording.{Plan, Entry}
-use Rattle.rounds.specs.Rounds.{rounds-in, recorded-in, search}
-use Rattle.rounds.specs.Answers.{Answer, refused, given, Listing, list-of, list, in-time, chosen, choose}
+use Rattle.rounds.specs.Outset.{Outset, ordinary}
+use Rattle.rounds.specs.Rounds.{rounds-in, recorded-in, search-from}
+use Rattle.rounds.specs.Answers.{Answer, refused, given, Listing, list-of, list, list-from, in-time, chosen, choose, choose-from}
 use Rattle.rounds.specs.Areas.{PlanAreas, pairs-needed, times-needed, ListRoom, list-room, PlanRoom, plan-room}
 use Rattle.rounds.specs.Areas.{after-admission, tested, after-tests, list-to, choose-to, list-reply, choice-reply}
 use Rattle.rounds.specs.Areas.{pair-numbers, time-numbers, plan-times, list-left, plan-left}
@@ -114,9 +115,9 @@ choice-told (refused r) = refl
 choice-told (given e) = refl
 
 -- the rounds refuse with 8
-pub rounds-refuse : (s : Sheet) → Refuses s (of-answer (list s))
-unfolding list list-of
-rounds-refuse s = go (rounds-in (search s)) (recorded-in (search s))
+pub rounds-refuse : (s : Sheet) (o : Outset) → Refuses s (of-answer (list-from s o))
+unfolding list-from list-of
+rounds-refuse s o = go (rounds-in (search-from s o)) (recorded-in (search-from s o))
   where
     go : (c : ℕ) (recorded : List Entry) → Refuses s (of-answer (list-of c recorded))
     go c [] = refuses-later s NoSchedule refl (omega arith)
@@ -124,13 +125,12 @@ rounds-refuse s = go (rounds-in (search s)) (recorded-in (search s))
 
 pub list-refuses : (s : Sheet) (lent : List ℤ) → Refuses s (of-listing (list-reply (list-to s lent)))
 unfolding list-to
-list-refuses s lent = rw (listing-told (list-to s lent)) (answer-refuses s (list-room s (length lent)) (list s) (rounds-refuse s))
+list-refuses s lent = rw (listing-told (list-to s lent)) (answer-refuses s (list-room s (length lent)) (list s) (rounds-refuse s (ordinary s)))
 
-pub choice-refuses : (s : Sheet) (wish : ℕ) (lent : PlanAreas) → Refuses s (of-choice (choice-reply (choose-to s wish lent)))
-unfolding choose-to choose chosen
-choice-refuses s wish lent =
-    rw (choice-told (choose-to s wish lent))
-    (answer-refuses s (plan-room s (length (lent .trains)) (length (lent .times))) (choose s wish) (go (recorded-in (search s))))
+-- and a choice from them with 8 or 11
+choices-refuse : (s : Sheet) (o : Outset) (wish : ℕ) → Refuses s (of-answer (choose-from s o wish))
+unfolding choose-from chosen
+choices-refuse s o wish = go (recorded-in (search-from s o))
   where
     timely : (b : Bool) (e : Entry) → Refuses s (of-answer (cond b (given e) (refused WishTooEarly)))
     timely true e = refuses-nothing s
@@ -139,6 +139,12 @@ choice-refuses s wish lent =
     go : (recorded : List Entry) → Refuses s (of-answer (chosen wish recorded))
     go [] = refuses-later s NoSchedule refl (omega arith)
     go (e ∷ es) = timely (in-time wish e) _
+
+pub choice-refuses : (s : Sheet) (wish : ℕ) (lent : PlanAreas) → Refuses s (of-choice (choice-reply (choose-to s wish lent)))
+unfolding choose-to
+choice-refuses s wish lent =
+    rw (choice-told (choose-to s wish lent))
+    (answer-refuses s (plan-room s (length (lent .trains)) (length (lent .times))) (choose s wish) (choices-refuse s (ordinary s) wish))
 
 pub list-as-found : (x : Answer Listing) (found : List ℤ) → 1 ≤ numberOf (of-listing (list-reply x)) → list-left x found ≡ found
 unfolding list-reply list-left

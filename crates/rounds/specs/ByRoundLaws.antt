@@ -18,13 +18,16 @@ use Rattle.model.specs.declared.RoundReply.the-variants.{GoesOn}
 use Rattle.rounds.specs.Recording.{Entry, listed, no-entry, last-entry}
 use Rattle.rounds.specs.RecordingLaws.{FromEnd, nothing, behind, from-end, last-behind}
 use Rattle.rounds.specs.Rounds.{Search, going, ended, rounds-in, recorded-in, start, round, rounds, recorded-after, search}
+use Rattle.rounds.specs.Rounds.{round-from, rounds-from}
 use Rattle.rounds.specs.RoundsBound.{rounds-bound}
+use Rattle.rounds.specs.Outset.{ordinary}
 use Rattle.rounds.specs.RoundsLaws.{one-round-more}
-use Rattle.rounds.specs.Answers.{Answer, refused, given, Listing, list-of, list, last-listed, chosen, choose}
+use Rattle.rounds.specs.Answers.{Answer, refused, given, Listing, list-of, list, list-from, last-listed, chosen, choose, choose-from}
 use Rattle.rounds.specs.Areas.{pair-numbers, list-left, plan-left}
 use Rattle.rounds.specs.AreaLaws.{decides-list-room, decides-plan-room, tested-so, Refuses, tests-refuse}
 use Rattle.rounds.specs.ByRound.{SearchAreas, SearchRoom, search-room, start-to, Calls, started, then-round, then-look, round-calls}
 use Rattle.rounds.specs.ByRound.{search-by, seen, end-of, said, last-plan, areas-by}
+use Rattle.rounds.specs.AimLaws.{whole}
 use Rattle.rounds.specs.InvariantLaws.{Over, at-end, over-by, search-at-end}
 use Rattle.rounds.specs.ChoosingLaws.{last-recorded-chosen}
 
@@ -98,7 +101,7 @@ module _ (s : Sheet) where
   -- "A further round after the end changes nothing"
   pub no-more-rounds : (calls : Calls) (c : ℕ) (recorded : List Entry) → search-by s calls ≡ ended c recorded
       → search-by s (then-round calls) ≡ search-by s calls
-  unfolding search-by round
+  unfolding search-by round-from
   no-more-rounds calls c recorded e = ap (round s) e ∙ sym e
 
   -- "reading changes nothing"
@@ -110,9 +113,9 @@ module _ (s : Sheet) where
 
   -- THE SEARCH AFTER THESE CALLS IS THAT OF AS MANY ROUNDS
   pub made-so-far : (calls : Calls) → search-by s calls ≡ rounds s (round-calls calls) (start s)
-  unfolding search-by round-calls rounds
+  unfolding search-by round-calls rounds-from
   made-so-far started = refl
-  made-so-far (then-round calls) = ap (round s) (made-so-far calls) ∙ sym (rw add-one at (one-round-more s (round-calls calls) (start s)))
+  made-so-far (then-round calls) = ap (round s) (made-so-far calls) ∙ sym (rw add-one at (one-round-more s (ordinary s) (round-calls calls) (start s)))
   made-so-far (then-look calls) = made-so-far calls
 
   -- a look gives what they have recorded
@@ -131,27 +134,27 @@ module _ (s : Sheet) (a : Admitted s) where
 
   -- "the round-by-round search ends within the same figure"
   pub end-comes : (calls : Calls) → rounds-bound s ≤ round-calls calls → ¬ (said (search-by s calls) ≡ GoesOn)
-  end-comes calls l = go (search-by s calls) (subst (Over s) (sym (made-so-far s calls)) (over-by s a (round-calls calls) l))
+  end-comes calls l = go (search-by s calls) (subst (Over s (whole s a)) (sym (made-so-far s calls)) (over-by s (whole s a) (round-calls calls) l))
     where
-      go : (x : Search) → Over s x → ¬ (said x ≡ GoesOn)
+      go : (x : Search) → Over s (whole s a) x → ¬ (said x ≡ GoesOn)
       go x (at-end {c = c} {recorded = recorded} h) e = not-at-end (list-of c recorded) (sym (said-ended c recorded) ∙ e)
 
   -- there it is the unbroken search
   pub end-is : (calls : Calls) → ¬ (said (search-by s calls) ≡ GoesOn) → search-by s calls ≡ search s
   end-is calls e =
       let u = ended-so (search-by s calls) e in
-      u ∙ sym (search-at-end s a (round-calls calls) _ _ (sym (made-so-far s calls) ∙ u))
+      u ∙ sym (search-at-end s (whole s a) (round-calls calls) _ _ (sym (made-so-far s calls) ∙ u))
 
   -- and "the list .. and count of the unbroken search, or its 8" are said
   pub said-at-end : (calls : Calls) → ¬ (said (search-by s calls) ≡ GoesOn) → said (search-by s calls) ≡ end-of (list s)
-  unfolding list
+  unfolding list-from
   said-at-end calls e =
       ap said (ended-so (search-by s calls) e) ∙ said-ended _ _ ∙ ap (λ x. end-of (list-of (rounds-in x) (recorded-in x))) (end-is calls e)
 
   -- ---- the areas at the end
 
   pub pairs-at-end : (found : SearchAreas) → areas-by s (search s) found .pairs ≡ list-left (list s) (found .pairs)
-  unfolding areas-by list list-of list-left listed
+  unfolding areas-by list-from list-of list-left listed
   pairs-at-end found = go (rounds-in (search s)) (recorded-in (search s))
     where
       go : (c : ℕ) (recorded : List Entry) → over (pair-numbers (listed recorded)) (found .pairs) ≡ list-left (list-of c recorded) (found .pairs)
@@ -160,13 +163,13 @@ module _ (s : Sheet) (a : Admitted s) where
 
   -- the last plan is the one that is chosen for the last listed arrival
   last-plan-is : last-plan (recorded-in (search s)) ≡ choose s (last-listed (list s))
-  unfolding choose chosen list list-of last-plan
+  unfolding choose-from chosen list-from list-of last-plan
   last-plan-is = go (recorded-in (search s)) refl
     where
       go : (recorded : List Entry) → recorded-in (search s) ≡ recorded
           → last-plan recorded ≡ chosen (last-listed (list-of (rounds-in (search s)) recorded)) recorded
       go [] u = refl
-      go (e ∷ es) u = sym (rw u at (last-recorded-chosen s a (ap (list-of (rounds-in (search s))) u)))
+      go (e ∷ es) u = sym (rw u at (last-recorded-chosen s (whole s a) (ap (list-of (rounds-in (search s))) u)))
 
   pub plan-at-end : (found : SearchAreas) → areas-by s (search s) found .plan ≡ plan-left s (choose s (last-listed (list s))) (found .plan)
   unfolding areas-by

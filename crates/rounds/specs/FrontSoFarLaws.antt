@@ -10,38 +10,36 @@ use Rattle.numbers.specs.DecidesLaws.{decides-eq, decides-ltℤ, decided}
 use Rattle.numbers.specs.SignedLaws.{≤ℤ-trans, <ℤ-weaken, ≮ℤ-≤ℤ, ≤ℤ-<ℤ-trans}
 use Rattle.numbers.specs.OneMoreLaws.{All, Some, all-more, some-old, some-new, some-split}
 use Rattle.model.specs.Sheet.{Sheet}
-use Rattle.model.specs.Schedule.{Schedule}
 use Rattle.model.specs.Lateness.{Pair, pairOf, AtLeastAsGood}
-use Rattle.model.specs.Admission.{Admitted}
 use Rattle.rounds.specs.Recording.{Entry, record-entry, listed, no-pair}
 use Rattle.rounds.specs.RecordingLaws.{record-same, record-other, listed-behind}
-use Rattle.rounds.specs.EntryPlan.{EntryPlan}
+use Rattle.rounds.specs.EntryPlan.{EntryPlanAmong}
 use Rattle.rounds.specs.Rounds.{above-everything}
 use Rattle.rounds.specs.PairListLaws.{Before, Rising, rising-more}
-use Rattle.rounds.specs.ScheduleLaws.{below-everything}
+use Rattle.rounds.specs.AimLaws.{Aim, below-first}
 
 -- p is at least as good as this schedule
 abbrev pub Matches : Sheet → (train departure : List ℕ) → Pair → Type 0
 Matches s train departure p = AtLeastAsGood p (pairOf s train departure)
 
-module _ (s : Sheet) where
+module _ (s : Sheet) (a : Aim s) where
   -- p is the pair of some schedule
   abbrev pub Belongs : Pair → Type 0
-  Belongs p = (train : List ℕ) × (departure : List ℕ) × Schedule s train departure × (pairOf s train departure ≡ p)
+  Belongs p = (train : List ℕ) × (departure : List ℕ) × a .Among train departure × (pairOf s train departure ≡ p)
 
   -- an entry's pair is that of its plan
-  pub belongs-to : (e : Entry) → EntryPlan s e → Belongs (e .pair)
+  pub belongs-to : (e : Entry) → EntryPlanAmong s (a .Among) e → Belongs (e .pair)
   belongs-to e h = (e .plan .train, e .plan .departure, h .schedule, h .pair)
 
   -- no schedule below the limit y arrives before p
   abbrev pub Soonest : ℤ → Pair → Type 0
   Soonest y p =
-      (train departure : List ℕ) → Schedule s train departure → pairOf s train departure .worst <ℤ y → p .last ≤ pairOf s train departure .last
+      (train departure : List ℕ) → a .Among train departure → pairOf s train departure .worst <ℤ y → p .last ≤ pairOf s train departure .last
 
   -- every schedule that is not below the limit y is matched
   abbrev pub Matched : ℤ → List Pair → Type 0
   Matched y pairs =
-      (train departure : List ℕ) → Schedule s train departure → y ≤ℤ pairOf s train departure .worst → Some no-pair (Matches s train departure) pairs
+      (train departure : List ℕ) → a .Among train departure → y ≤ℤ pairOf s train departure .worst → Some no-pair (Matches s train departure) pairs
 
   -- so a schedule's pair that is better than p₀, before which no better one arrives, does not arrive before it
   pub not-before : (p₀ : Pair) → Soonest (p₀ .worst) p₀ → (p : Pair) → Belongs p → p .worst <ℤ p₀ .worst → p₀ .last ≤ p .last
@@ -72,7 +70,7 @@ module _ (s : Sheet) where
           rising = rising;
         }
       where
-        go : (train departure : List ℕ) → Schedule s train departure → p .worst ≤ℤ pairOf s train departure .worst
+        go : (train departure : List ℕ) → a .Among train departure → p .worst ≤ℤ pairOf s train departure .worst
             → (pairOf s train departure .worst <ℤ y) ⊎ (¬ (pairOf s train departure .worst <ℤ y))
             → Some no-pair (Matches s train departure) (before ++ (p ∷ []))
         go train departure h l (inl u) =
@@ -118,13 +116,14 @@ module _ (s : Sheet) where
           (rising-more before p₀ (H .rising) (H .beyond))
 
   -- STEP 3 KEEPS IT
-  module _ (a : Admitted s) (y : ℤ) (e : Entry) (own : Belongs (e .pair)) (better : e .pair .worst <ℤ y) (sooner : Soonest y (e .pair)) where
+  module _ (y : ℤ) (e : Entry) (own : Belongs (e .pair)) (better : e .pair .worst <ℤ y) (sooner : Soonest y (e .pair)) where
     pub recording : (entries : List Entry) → Recorded y entries → Recorded (e .pair .worst) (record-entry entries e)
     unfolding record-entry listed
     recording entries (nothing-yet limit) =
         so-far [] e refl
         (goes-behind y (e .pair) own better sooner []
-        (λ train departure h l. clashℤ (below-everything s a train departure h) (subst (λ (v : ℤ). v ≤ℤ pairOf s train departure .worst) limit l))
+        (λ train departure h l. clashℤ (below-first s a train departure h)
+        (subst (λ (v : ℤ). v ≤ℤ pairOf s train departure .worst) limit l))
         (λ k l. absurd (omega arith)) (λ i k l m. absurd (omega arith)))
     recording entries (so-far before e₀ limit H) = go (decided (decides-eq (e₀ .pair .last) (e .pair .last)))
       where

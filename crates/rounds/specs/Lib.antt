@@ -6,9 +6,11 @@ pub mod Recording
 pub mod RecordingLaws
 pub mod Prompt
 pub mod EntryPlan
+pub mod ListedPairs
 pub mod ChosenPair
 pub mod Lowering
 pub mod LoweringLaws
+pub mod Outset
 pub mod Rounds
 pub mod RoundsBound
 pub mod RoundsLaws
@@ -29,6 +31,7 @@ pub mod SettledLaws
 pub mod TimingRuleLaws
 pub mod PairListLaws
 pub mod ScheduleLaws
+pub mod AimLaws
 pub mod FrontSoFarLaws
 pub mod ShortTrainLaws
 pub mod OneRoundLaws

@@ -4,6 +4,7 @@ use Prim.Native.Nat.{ℕ, _≤_}
 use lib.Signed.{_≤ℤ_}
 use Rattle.numbers.specs.Counting.{nth}
 use Rattle.model.specs.Sheet.{Sheet}
+use Rattle.model.specs.Schedule.{Schedules}
 use Rattle.model.specs.Arrival.{arrival}
 use Rattle.model.specs.Lateness.{pairOf}
 
@@ -14,7 +15,7 @@ pub record NoEarlier (s : Sheet) (departure other : List ℕ) (i : ℕ) : Type 0
 
 -- "every schedule whose worst weighted lateness is no greater than that plan's has each train, first to last, leaving no earlier and arriving no earlier":
 -- every one of the schedules `Among`, an empty train too
-abbrev pub Prompt : (s : Sheet) (Among : (train departure : List ℕ) → Type 0) (train departure : List ℕ) → Type 0
+abbrev pub Prompt : (s : Sheet) (Among : Schedules) (train departure : List ℕ) → Type 0
 Prompt s Among train departure =
     (other-train other : List ℕ) → Among other-train other → pairOf s other-train other .worst ≤ℤ pairOf s train departure .worst
     → (i : ℕ) → 1 ≤ i → i ≤ s .trains → NoEarlier s departure other i

@@ -10,7 +10,8 @@ use Rattle.model.specs.Cases.{case-a}
 use Rattle.model.specs.Admission.{admission, Admitted}
 use Rattle.model.specs.AdmissionLaws.{admitted-means}
 use Rattle.rounds.specs.Recording.{Entry}
-use Rattle.rounds.specs.Answers.{given, choose}
+use Rattle.rounds.specs.Answers.{given, choose, choose-from}
+use Rattle.rounds.specs.AimLaws.{whole}
 use Rattle.rounds.specs.ChoosingLaws.{prompt-chosen}
 use Rattle.rounds.specs.ShortCases.{empty-middle}
 use Rattle.rounds.specs.PromptCases.{HasToWait, PromptCasesAre}
@@ -18,7 +19,7 @@ use Rattle.rounds.specs.PromptCases.{HasToWait, PromptCasesAre}
 -- train i of a chosen plan
 waits : (s : Sheet) → Admitted s → (wish : ℕ) {e : Entry} → choose s wish ≡ given e → (i : ℕ) → 1 ≤ i → i ≤ s .trains
     → HasToWait s (pairOf s (e .plan .train) (e .plan .departure) .worst) i (nth (e .plan .departure) i) (arrival (s .paths) (nth (e .plan .departure)) i)
-waits s a wish u i p m train departure h l = let w = prompt-chosen s a wish u train departure h l i p m in (w .leaves, w .arrives)
+waits s a wish u i p m train departure h l = let w = prompt-chosen s (whole s a) wish u train departure h l i p m in (w .leaves, w .arrives)
 
 a-admitted : Admitted case-a
 unfolding admission
@@ -29,7 +30,7 @@ unfolding admission
 middle-admitted = admitted-means empty-middle .0 refl
 
 pub prompt-cases-are : PromptCasesAre
-unfolding choose arrivalBehind greatest-lateness
+unfolding choose-from arrivalBehind greatest-lateness
 prompt-cases-are =
     record {
       last-plan = waits case-a a-admitted 130 refl 2 (omega arith) (omega arith);

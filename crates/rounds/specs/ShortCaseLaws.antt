@@ -6,7 +6,7 @@ use Rattle.model.specs.Admission.{admission}
 use Rattle.model.specs.declared.Refusal.the-variants.{TooFewPlaces}
 use Rattle.model.specs.declared.Admission.the-variants.{Granted, Refused}
 use Rattle.rounds.specs.Loading.{load, take-orders}
-use Rattle.rounds.specs.Timing.{ready}
+use Rattle.rounds.specs.Timing.{awaited}
 use Rattle.rounds.specs.Answers.{last-arrival-in}
 use Rattle.rounds.specs.ShortCases.{one-too-few, short-admissions, short-lists, stated-short-lists, short-plans, stated-short-plans}
 
@@ -37,6 +37,6 @@ unfolding load
 all-on-the-last = refl
 
 -- and an empty train awaits no release
-pub nothing-awaited : ready (λ j. 5) (3 ∷ 3 ∷ []) 2 1 ≡ 0
-unfolding ready
+pub nothing-awaited : awaited (λ i. 0) (λ j. 5) (3 ∷ 3 ∷ []) 2 1 ≡ 0
+unfolding awaited
 nothing-awaited = refl

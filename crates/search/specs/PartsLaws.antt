@@ -14,13 +14,15 @@ use Rattle.model.specs.Limits.{most-pairs, last-arrival}
 use Rattle.model.specs.Memory.{sheetOf}
 use Rattle.model.specs.Admission.{Admitted}
 use Rattle.model.specs.declared.Sheet as memory
-use Rattle.rounds.specs.Timing.{ready, timed}
+use Rattle.rounds.specs.Timing.{awaited, timed}
 use Rattle.rounds.specs.Lowering.{crowded}
+use Rattle.rounds.specs.Outset.{ordinary}
 use Rattle.rounds.specs.Rounds.{Search, start, loading, times, rounds}
 use Rattle.rounds.specs.RoundsBound.{rounds-bound}
 use Rattle.rounds.specs.LoweringLaws.{decides-crowded, not-crowded}
 use Rattle.rounds.specs.ScheduleLaws.{timed-within}
-use Rattle.rounds.specs.OneRoundLaws.{Going, every-order-loaded}
+use Rattle.rounds.specs.AimLaws.{whole}
+use Rattle.rounds.specs.OneRoundLaws.{Going, every-order-loaded, upto}
 use Rattle.rounds.specs.InvariantLaws.{reached, below-bound}
 use Rattle.rounds.specs.BoundLaws.{bound-most}
 use Rattle.columns.specs.Columns.{UpTo, Loaded}
@@ -36,13 +38,13 @@ begun s a p R on = go (rounds s (R .made) (start s)) refl (R .shows .stands)
     go : (x : Search) → rounds s (R .made) (start s) ≡ x → Stands (s .orders) p x → Begun s p
     go x e (has-ended f c) = one-outcome f on
     go x e (goes-on {c = c} {latest = latest} {y = y} {recorded = recorded} f made l v) =
-        let g : Going s (R .made) c latest y recorded = reached s a (R .made) c latest y recorded e in
+        let g : Going s (whole s a) (R .made) c latest y recorded = reached s (whole s a) (R .made) c latest y recorded e in
         record {
           orderly = R .shows .orderly;
-          latest = λ j u. rw (ap (λ (m : List ℕ). at m j) (sym l) ∙ getD-take (s .orders) (p .latest) j 0 u) at (g .upto j u);
+          latest = λ j u. rw (ap (λ (m : List ℕ). at m j) (sym l) ∙ getD-take (s .orders) (p .latest) j 0 u) at (upto s (whole s a) g j u);
           uncrowded = rw l (test-false (decides-crowded (s .orders) (s .capacity) latest (s .trains))
               (λ x. omega (arith, x .more, g .fits (x .train) (x .among))));
-          within = let (counted, below) = below-bound s a (R .made) c latest y recorded e in omega (arith, made);
+          within = let (counted, below) = below-bound s (whole s a) (R .made) c latest y recorded e in omega (arith, made);
         }
 
 module _ (s : Sheet) (a : Admitted s) (p : Progress) (b : Begun s p) where
@@ -50,7 +52,7 @@ module _ (s : Sheet) (a : Admitted s) (p : Progress) (b : Begun s p) where
   pub loads : Loaded s (loading s (take (s .orders) (p .latest)))
   loads =
       let latest = take (s .orders) (p .latest) in
-      every-order-loaded s latest (λ j l. rw (getD-take (s .orders) (p .latest) j 0 l) (b .latest j l))
+      every-order-loaded s (ordinary s) latest (λ j l. rw (getD-take (s .orders) (p .latest) j 0 l) (b .latest j l))
       (not-crowded (s .orders) (s .capacity) latest (s .trains)
       (test-fails (decides-crowded (s .orders) (s .capacity) latest (s .trains)) (b .uncrowded)))
 
@@ -76,7 +78,7 @@ pub made-in-time : (s : Sheet) → Admitted s → (train : List ℕ) (t : Times)
     → times s train ≡ timed (take (s .trains) (t .departure)) (take (s .trains) (t .arrival)) (take (s .trains) (t .window))
     → UpTo last-arrival (s .trains) (t .arrival)
 made-in-time s a train t e j l =
-    let within = timed-within s a (ready (s .release) train (s .orders)) _ _ _ e .2 (suc j) (omega arith) l in
+    let within = timed-within s a (awaited (λ i. 0) (s .release) train (s .orders)) _ _ _ e .2 (suc j) (omega arith) l in
     let here : suc j - 1 ≡ j = omega arith in
     rw (here, getD-take (s .trains) (t .arrival) j 0 l) at within
 

@@ -16,7 +16,8 @@ use Rattle.rounds.specs.Recording.{Plan, Entry, record-entry, recorded-arrival}
 use Rattle.rounds.specs.RecordingLaws.{arrival-recorded}
 use Rattle.rounds.specs.Lowering.{lower, crowded}
 use Rattle.rounds.specs.LoweringLaws.{lower-at, latest-below-is}
-use Rattle.rounds.specs.Rounds.{Search, going, ended, recorded-in, loading, times, settle, grade, depart, round}
+use Rattle.rounds.specs.Outset.{ordinary}
+use Rattle.rounds.specs.Rounds.{Search, going, ended, recorded-in, loading, times, settle, grade, depart, round-from, round}
 use Rattle.columns.specs.Columns.{UpTo}
 use Rattle.loading.specs.BeginLaws.{orderly-next}
 use Rattle.search.specs.Shows.{Stands, goes-on, has-ended, BeginsFrom, Shows, shown-entry, recorded-by, RoundMade, Makes}
@@ -58,8 +59,8 @@ module _ (s : Sheet) (p r : Progress) (on : p .ended ≡ false) (counted : r .ro
           rw (← c, ← l, ← y) (record { shows = subst (Shows s r) (sym (n .is)) shows; records = ap recorded-in (n .is) ∙ n .records })
 
   departs : (recorded : List Entry) (t : Timed) → times s (loading s latest) ≡ t
-      → round s (shown recorded) ≡ depart s made latest (p .limit) recorded (loading s latest) t
-  unfolding round
+      → round s (shown recorded) ≡ depart s (ordinary s) made latest (p .limit) recorded (loading s latest) t
+  unfolding round-from
   departs recorded t e = rw e
 
   -- STEP 2 STOPS IT
@@ -87,14 +88,14 @@ module _ (s : Sheet) (p r : Progress) (on : p .ended ≡ false) (counted : r .ro
 
   -- step 3
   module _ (graded : Graded p r z (F (s .trains))) (recorded : List Entry) where
-    grades : grade s made latest (p .limit) recorded plan ≡ settle s made latest (r .limit) (recorded-by s r recorded) F
+    grades : grade s (ordinary s) made latest (p .limit) recorded plan ≡ settle s (ordinary s) made latest (r .limit) (recorded-by s r recorded) F
     unfolding grade
     grades = rw (← (graded .0)) (go (r .better) (graded .1) (graded .2))
       where
         go : (b : Bool) → r .limit ≡ cond b z (p .limit) → r .last ≡ cond b (F (s .trains)) (p .last)
-            → cond b (settle s made latest z (record-entry recorded (record { pair = record { last = F (s .trains); worst = z }; plan = plan })) F)
-            (settle s made latest (p .limit) recorded F)
-            ≡ settle s made latest (r .limit) (cond b (record-entry recorded (shown-entry s r)) recorded) F
+            → cond b (settle s (ordinary s) made latest z (record-entry recorded (record { pair = record { last = F (s .trains); worst = z }; plan = plan })) F)
+            (settle s (ordinary s) made latest (p .limit) recorded F)
+            ≡ settle s (ordinary s) made latest (r .limit) (cond b (record-entry recorded (shown-entry s r)) recorded) F
         go true e f = rw (e, f)
         go false e f = rw e
 
@@ -106,7 +107,7 @@ module _ (s : Sheet) (p r : Progress) (on : p .ended ≡ false) (counted : r .ro
         go false e = e ∙ last-is
 
   -- steps 4 and 5
-  settles : Settled s p r F → (entries : List Entry) → let x = settle s made latest (r .limit) entries F in
+  settles : Settled s p r F → (entries : List Entry) → let x = settle s (ordinary s) made latest (r .limit) entries F in
       Stands (s .orders) r x × (recorded-in x ≡ entries)
   unfolding settle
   settles settled entries = go (crowded (s .orders) (s .capacity) now (s .trains)) (rw (settled .0) at (settled .1))
@@ -143,7 +144,7 @@ module _ (s : Sheet) (p r : Progress) (on : p .ended ≡ false) (counted : r .ro
       makes (next-orderly low loads (settled .0)) (λ recorded.
       let (stands, records) = settles settled (recorded-by s r recorded) in
       record {
-        search = settle s made latest (r .limit) (recorded-by s r recorded) F;
+        search = settle s (ordinary s) made latest (r .limit) (recorded-by s r recorded) F;
         is = departs recorded _ runs ∙ rw (← loads) (grades graded recorded);
         stands = stands;
         records = records;

@@ -6,9 +6,11 @@ use Prim.Native.Nat.{ℕ, _+_, _<_}
 use Rattle.numbers.specs.DecidesLaws.{one-outcome}
 use Rattle.model.specs.Sheet.{Sheet}
 use Rattle.model.specs.Admission.{Admitted}
-use Rattle.rounds.specs.Rounds.{Search, going, ended, recorded-in, start, rounds, recorded-after}
+use Rattle.rounds.specs.Outset.{ordinary}
+use Rattle.rounds.specs.Rounds.{Search, going, ended, recorded-in, start-from, rounds-from, start, rounds, recorded-after}
 use Rattle.rounds.specs.RoundsBound.{rounds-bound}
 use Rattle.rounds.specs.RoundsLaws.{one-round-more}
+use Rattle.rounds.specs.AimLaws.{whole}
 use Rattle.rounds.specs.InvariantLaws.{below-bound}
 use Rattle.search.specs.Shows.{Stands, goes-on, has-ended, Shows, recorded-by, Makes}
 use Rattle.search.specs.declared.Progress.{Progress}
@@ -17,15 +19,15 @@ module _ (s : Sheet) where
   -- ---- before the first round
 
   pub start-records-nothing : recorded-in (start s) ≡ []
-  unfolding start
+  unfolding start-from
   start-records-nothing = refl
 
   pub nothing-recorded : (k : ℕ) → k ≡ 0 → recorded-after s k ≡ []
-  unfolding rounds
+  unfolding rounds-from
   nothing-recorded k e = rw e start-records-nothing
 
   pub start-shown : (p : Progress) → Shows s p (start s) → (p .rounds ≡ 0) × Shows s p (rounds s (p .rounds) (start s))
-  unfolding rounds start
+  unfolding rounds-from start-from
   start-shown p h = let none = go (h .stands) in (none, subst (λ (k : ℕ). Shows s p (rounds s k (start s))) (sym none) h)
     where
       go : Stands (s .orders) p (start s) → p .rounds ≡ 0
@@ -38,7 +40,7 @@ module _ (s : Sheet) where
       → Shows s r (rounds s (r .rounds) (start s))
       × (recorded-after s (r .rounds) ≡ recorded-by s r (recorded-after s (p .rounds)))
   next-shown p r h makes one =
-      let next : rounds s (r .rounds) (start s) ≡ _ = ap (λ (k : ℕ). rounds s k (start s)) one ∙ one-round-more s (p .rounds) (start s) in
+      let next : rounds s (r .rounds) (start s) ≡ _ = ap (λ (k : ℕ). rounds s k (start s)) one ∙ one-round-more s (ordinary s) (p .rounds) (start s) in
       let made = makes _ h in
       (subst (Shows s r) (sym next) (made .shows), ap recorded-in next ∙ made .records)
 
@@ -47,7 +49,7 @@ module _ (s : Sheet) where
   more-to-come a p on k h = go (rounds s k (start s)) refl (h .stands)
     where
       go : (x : Search) → rounds s k (start s) ≡ x → Stands (s .orders) p x → k < rounds-bound s
-      go (going c latest y recorded) u (goes-on f made l v) = below-bound s a k c latest y recorded u .1
+      go (going c latest y recorded) u (goes-on f made l v) = below-bound s (whole s a) k c latest y recorded u .1
       go (ended c recorded) u (has-ended f made) = one-outcome f on
 
   -- ---- the end

@@ -9,7 +9,7 @@ use Rattle.numbers.specs.Counting.{at}
 use Rattle.numbers.specs.ListLaws.{take-replicate}
 use Rattle.model.specs.Sheet.{Sheet}
 use Rattle.rounds.specs.Recording.{last-entry}
-use Rattle.rounds.specs.Rounds.{above-everything, start}
+use Rattle.rounds.specs.Rounds.{above-everything, start-from, start}
 use Rattle.loading.specs.BeginLaws.{orderly-none}
 use Rattle.search.specs.Shows.{goes-on, Shows}
 use Rattle.search.specs.declared.Progress.{Progress}
@@ -17,7 +17,7 @@ use Rattle.search.specs.declared.Progress.{Progress}
 -- before the first round
 pub starts : (s : Sheet) (p : Progress) → s .orders ≤ 200 → p .train ≡ replicate 200 0 → p .latest ≡ replicate 200 (s .trains) → p .limit ≡ above-everything
     → p .last ≡ 0 → p .rounds ≡ 0 → p .ended ≡ false → Shows s p (start s)
-unfolding start last-entry
+unfolding start-from last-entry
 starts s p few train latest limit last rounds on =
     record {
       orderly = orderly-none (s .orders) (s .trains) (s .release) (s .capacity) (p .latest) (p .train)

@@ -25,53 +25,53 @@ use Rattle.model.specs.declared.Form.{Form}
 use Rattle.model.specs.declared.Sheet as memory
 use Rattle.rounds.specs.Rounds.{times}
 use Rattle.rounds.specs.TimingLaws.{FirstWindow, all-over, first-is, first-window-is}
-use Rattle.rounds.specs.Timing.{ready, first-window, earliest, none, departed, leave, next-departure, departures}
+use Rattle.rounds.specs.Timing.{awaited, first-window, earliest, none, departed, leave, next-departure, departures}
 use Rattle.rounds.specs.Timing.{arrive, on-timetable, stopped, timed, timing}
 use Rattle.timing.specs.Timed.{never, departed-in, WindowsOver, HaveLeft}
 use Rattle.timing.specs.declared.Leaving.{Leaving}
 
 -- ---- the releases on the trains
 
-module _ (release : ℕ → ℕ) (train : List ℕ) where
-  pub releases-none : replicate (train-counts .most) 0 ≡ row (ready release train 0) (train-counts .most)
-  unfolding table ready
-  releases-none = refl
+pub releases-none : (release : ℕ → ℕ) (train : List ℕ) → replicate (train-counts .most) 0 ≡ row (awaited (λ i. 0) release train 0) (train-counts .most)
+unfolding table awaited
+releases-none release train = refl
 
-  ready-own : (j i : ℕ) → at train j ≡ i → max (release j) (ready release train j i) ≡ ready release train (j + 1) i
-  unfolding ready
-  ready-own j i e = rw (add-one, eq-eqb (at train j) i e)
+module _ (since release : ℕ → ℕ) (train : List ℕ) where
+  awaited-own : (j i : ℕ) → at train j ≡ i → max (release j) (awaited since release train j i) ≡ awaited since release train (j + 1) i
+  unfolding awaited
+  awaited-own j i e = rw (add-one, eq-eqb (at train j) i e)
 
-  ready-other : (j i : ℕ) → ¬ (at train j ≡ i) → ready release train j i ≡ ready release train (j + 1) i
-  unfolding ready
-  ready-other j i e = rw (add-one, ne-eqb (at train j) i e) (omega arith)
+  awaited-other : (j i : ℕ) → ¬ (at train j ≡ i) → awaited since release train j i ≡ awaited since release train (j + 1) i
+  unfolding awaited
+  awaited-other j i e = rw (add-one, ne-eqb (at train j) i e) (omega arith)
 
   -- the order at place j, on train t, is counted in
-  pub releases-more : (q j t : ℕ) (l : List ℕ) → l ≡ row (ready release train j) q → at train j ≡ t → 1 ≤ t → t ≤ q
-      → set l (t - 1) (max (release j) (at l (t - 1))) ≡ row (ready release train (j + 1)) q
+  pub releases-more : (q j t : ℕ) (l : List ℕ) → l ≡ row (awaited since release train j) q → at train j ≡ t → 1 ≤ t → t ≤ q
+      → set l (t - 1) (max (release j) (at l (t - 1))) ≡ row (awaited since release train (j + 1)) q
   releases-more q j t l e on some few =
-      ext-getD 0 (set l (t - 1) v) (row (ready release train (j + 1)) q) (long ∙ sym (table-length _ q))
+      ext-getD 0 (set l (t - 1) v) (row (awaited since release train (j + 1)) q) (long ∙ sym (table-length _ q))
       (λ k h. go k (omega (arith, long)) (decided (decides-eq k (t - 1))))
     where
       v : ℕ
       v = max (release j) (at l (t - 1))
 
       size : length l ≡ q
-      size = ap (λ (x : List ℕ). length x) e ∙ table-length (λ m. ready release train j (suc m)) q
+      size = ap (λ (x : List ℕ). length x) e ∙ table-length (λ m. awaited since release train j (suc m)) q
 
       long : length (set l (t - 1) v) ≡ q
       long = length-set l (t - 1) v ∙ size
 
-      old : (k : ℕ) → k < q → at l k ≡ ready release train j (suc k)
-      old k h = ap (λ (x : List ℕ). at x k) e ∙ table-at (λ m. ready release train j (suc m)) 0 q k h
+      old : (k : ℕ) → k < q → at l k ≡ awaited since release train j (suc k)
+      old k h = ap (λ (x : List ℕ). at x k) e ∙ table-at (λ m. awaited since release train j (suc m)) 0 q k h
 
-      go : (k : ℕ) → k < q → (k ≡ t - 1) ⊎ (¬ (k ≡ t - 1)) → at (set l (t - 1) v) k ≡ at (row (ready release train (j + 1)) q) k
+      go : (k : ℕ) → k < q → (k ≡ t - 1) ⊎ (¬ (k ≡ t - 1)) → at (set l (t - 1) v) k ≡ at (row (awaited since release train (j + 1)) q) k
       go k h (inl u) =
           let here : at train j ≡ suc k = omega arith in
-          rw (← u, getD-set-same l k (max (release j) (at l k)) 0 (omega (arith, size)), old k h, ready-own j (suc k) here)
-          (sym (table-at (λ m. ready release train (j + 1) (suc m)) 0 q k h))
+          rw (← u, getD-set-same l k (max (release j) (at l k)) 0 (omega (arith, size)), old k h, awaited-own j (suc k) here)
+          (sym (table-at (λ m. awaited since release train (j + 1) (suc m)) 0 q k h))
       go k h (inr u) =
-          getD-set-other l (t - 1) k v 0 u ∙ old k h ∙ ready-other j (suc k) (λ w. u (omega arith))
-          ∙ sym (table-at (λ m. ready release train (j + 1) (suc m)) 0 q k h)
+          getD-set-other l (t - 1) k v 0 u ∙ old k h ∙ awaited-other j (suc k) (λ w. u (omega arith))
+          ∙ sym (table-at (λ m. awaited since release train (j + 1) (suc m)) 0 q k h)
 
 -- ---- windows
 
@@ -306,7 +306,7 @@ module _ (departure arrival : List ℕ) (q : ℕ) where
 
 -- the releases of all trains there can be, of which q count; the form decides which timing it is
 pub timed-by-form : (m : memory.Sheet) (train released : List ℕ) (form : Form) → m .form ≡ form → m .«train_count» ≤ train-counts .most
-    → released ≡ row (ready (at (m .release)) (take (m .«order_count») train) (m .«order_count»)) (train-counts .most)
+    → released ≡ row (awaited (λ i. 0) (at (m .release)) (take (m .«order_count») train) (m .«order_count»)) (train-counts .most)
     → timing (pathsBy form m) (m .«train_count») (nth released) ≡ times (sheetOf m) (take (m .«order_count») train)
 timed-by-form m train released form is few e =
     timing-same (nth released) f (pathsBy form m) q
@@ -317,7 +317,7 @@ timed-by-form m train released form is few e =
     q = m .«train_count»
 
     f : ℕ → ℕ
-    f = ready (at (m .release)) (take (m .«order_count») train) (m .«order_count»)
+    f = awaited (λ i. 0) (at (m .release)) (take (m .«order_count») train) (m .«order_count»)
 
 -- the form decides which arrivals follow from the departures
 pub arrived-by-form : (m : memory.Sheet) (departure arrivals : List ℕ) (form : Form) → m .form ≡ form

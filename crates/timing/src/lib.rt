@@ -16,7 +16,7 @@ ghost use Rattle.model.specs.Memory.{windowsOf, sheetOf};
 ghost use Rattle.model.specs.Arrival.{arrival as arrival-of, arrivalBehind};
 ghost use Rattle.model.specs.Limits.{last-instant, train-counts, order-counts, gap-range, running-range};
 ghost use Rattle.model.specs.Admission.{Admitted};
-ghost use Rattle.rounds.specs.Timing.{ready, departures as departures-of};
+ghost use Rattle.rounds.specs.Timing.{awaited, departures as departures-of};
 ghost use Rattle.rounds.specs.Rounds.{times as times-of};
 ghost use Rattle.columns.specs.Columns.{UpTo, Loaded};
 ghost use Rattle.timing.specs.Timed.{OnTrains, never, departed-in, timed-in};
@@ -41,7 +41,7 @@ pub struct Times {
 // The greatest release on each train, of n orders; 0 for one that carries none.
 fn releases(n: usize, release: [u32; MOST_ORDERS], train: [u8; MOST_ORDERS]) -> [u32; MOST_TRAINS]
     requires { ⌜ (n ≤ order-counts .most) × OnTrains n train ⌝ }
-    ensures { λ r. ⌜ r ≡ row (ready (at release) (take n train) n) (train-counts .most) ⌝ }
+    ensures { λ r. ⌜ r ≡ row (awaited (λ i. 0) (at release) (take n train) n) (train-counts .most) ⌝ }
 {
     let mut released = [0u32; MOST_TRAINS];
     let mut j: usize = 0;

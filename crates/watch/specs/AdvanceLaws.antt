@@ -1,8 +1,8 @@
 -- One round, and what it writes: the state and the areas are as after one round call more. Assumes nothing.
 use mathlib.Core.Path.{_≡_, refl, sym, ap, _∙_, subst}
 use mathlib.Core.Bool.{true, false}
-use mathlib.Core.List.{List, [], _∷_}
-use Prim.Native.Nat.{ℕ, _≤_}
+use mathlib.Core.List.{List}
+use Prim.Native.Nat.{ℕ}
 use native.Mathlib.Omega.{arith}
 use lib.IntN.{ℤ}
 use lib.ListN.{length}
@@ -12,6 +12,7 @@ use Rattle.rounds.specs.Recording.{Entry, record-entry, listed}
 use Rattle.rounds.specs.RecordingLaws.{record-lengthens, last-recorded}
 use Rattle.rounds.specs.EntryPlan.{EntryPlan}
 use Rattle.rounds.specs.Rounds.{Search, recorded-in, round}
+use Rattle.rounds.specs.AimLaws.{whole}
 use Rattle.rounds.specs.InvariantLaws.{entry-plans}
 use Rattle.rounds.specs.Answers.{given}
 use Rattle.rounds.specs.Areas.{pair-numbers, plan-times, plan-left}
@@ -85,7 +86,7 @@ module _ (s : Sheet) (state : State) (r : Progress) (makes : Makes s (progress-o
 
     -- the last plan is a schedule, after any calls; so this one is
     plans : (calls : Calls) (e₀ : Entry) → last-plan (recorded-in (search-by s calls)) ≡ given e₀ → EntryPlan s e₀
-    plans = last-plan-so s (EntryPlan s) (entry-plans s (h .admitted))
+    plans = last-plan-so s (EntryPlan s) (entry-plans s (whole s (h .admitted)))
 
     own : EntryPlan s e
     own = plans (then-round calls) e (ap last-plan recorded-is ∙ last-plan-new (recorded-in x) e)

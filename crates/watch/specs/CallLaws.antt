@@ -14,7 +14,7 @@ use Rattle.model.specs.declared.Admission.the-variants.{Granted, Refused}
 use Rattle.model.specs.declared.Refusal.{Refusal}
 use Rattle.rounds.specs.Recording.{listed}
 use Rattle.rounds.specs.RecordingLaws.{listed-length}
-use Rattle.rounds.specs.Rounds.{recorded-in, start}
+use Rattle.rounds.specs.Rounds.{recorded-in, start-from, start}
 use Rattle.rounds.specs.Areas.{pair-numbers, plan-left}
 use Rattle.rounds.specs.ByRound.{SearchAreas, start-to, Calls, started, search-by, seen, last-plan, areas-by}
 use Rattle.rounds.specs.ByRoundLaws.{decides-search-room, start-refuses}
@@ -39,11 +39,11 @@ module _ (s : Sheet) (lent : SearchAreas) (t : Admission) (is : t ≡ start-to s
 
   -- before the first round nothing is recorded, and the areas are as lent
   areas-begun : lent ≡ areas-by s (start s) lent
-  unfolding areas-by start last-plan plan-left listed pair-numbers
+  unfolding areas-by start-from last-plan plan-left listed pair-numbers
   areas-begun = refl
 
   left-begun : t ≡ Granted → (p : Progress) → Shows s p (start s) → LeftBy s lent started (state-of p 0) lent
-  unfolding start-to search-by start
+  unfolding start-to search-by start-from
   left-begun e p shows =
       record {
         admitted = admitted s _ t is e;

@@ -13,6 +13,7 @@ use Rattle.model.specs.declared.Refusal.{Refusal}
 use Rattle.rounds.specs.Areas.{tested}
 use Rattle.rounds.specs.Rounds.{Search, going, ended, recorded-in, start, rounds}
 use Rattle.rounds.specs.RoundsBound.{rounds-bound}
+use Rattle.rounds.specs.AimLaws.{whole}
 use Rattle.rounds.specs.InvariantLaws.{reached, below-bound, ended-after}
 use Rattle.rounds.specs.ByRound.{SearchAreas, search-room, Calls, round-calls, search-by}
 use Rattle.rounds.specs.ByRoundLaws.{decides-search-room, made-so-far}
@@ -39,11 +40,11 @@ module _ (s : Sheet) (lent : SearchAreas) (calls : Calls) (state : State) (left 
       go : (x : Search) → rounds s k (start s) ≡ x → Stands (s .orders) (progress-of state) x → state .pairs ≡ length (recorded-in x)
           → (state .pairs ≤ state .rounds) × (state .rounds ≤ rounds-bound s)
       go (going c latest y recorded) u (goes-on e made l v) many = (
-        omega (arith, made, many, reached s (h .admitted) k c latest y recorded u .on-record .few),
-        let (counted, below) = below-bound s (h .admitted) k c latest y recorded u in omega (arith, made),
+        omega (arith, made, many, reached s (whole s (h .admitted)) k c latest y recorded u .on-record .few),
+        let (counted, below) = below-bound s (whole s (h .admitted)) k c latest y recorded u in omega (arith, made),
       )
       go (ended c recorded) u (has-ended e made) many =
-          let at-end = ended-after s (h .admitted) k c recorded u in (
+          let at-end = ended-after s (whole s (h .admitted)) k c recorded u in (
             omega (arith, made, many, at-end .on-record .few),
             omega (arith, made, at-end .bounded),
           )

@@ -8,6 +8,7 @@ use Rattle.rounds.specs.Recording.{Plan, Entry, last-entry}
 use Rattle.rounds.specs.EntryPlan.{EntryPlan, EntryBooked}
 use Rattle.rounds.specs.Prompt.{Prompt}
 use Rattle.rounds.specs.Rounds.{recorded-in}
+use Rattle.rounds.specs.AimLaws.{whole}
 use Rattle.rounds.specs.InvariantLaws.{entry-plans, entry-booked}
 use Rattle.rounds.specs.Answers.{Answer, given}
 use Rattle.rounds.specs.Areas.{plan-left}
@@ -35,8 +36,8 @@ module _ (s : Sheet) (lent : SearchAreas) (calls : Calls) (state : State) (left 
       let area : left .plan ≡ plan-left s (given e) (lent .plan) =
       ap (λ (x : SearchAreas). x .plan) (h .areas-are) ∙ ap (λ (x : Answer Entry). plan-left s x (lent .plan)) last-is in
       ap (plan-in s) area
-      ∙ plan-read s e (lent .plan) (last-plan-so s (EntryPlan s) (entry-plans s (h .admitted)) calls e last-is)
-      (last-plan-so s (EntryBooked s) (entry-booked s (h .admitted)) calls e last-is)
+      ∙ plan-read s e (lent .plan) (last-plan-so s (EntryPlan s) (entry-plans s (whole s (h .admitted))) calls e last-is)
+      (last-plan-so s (EntryBooked s) (entry-booked s (whole s (h .admitted))) calls e last-is)
 
   -- NO TRAIN OF IT IS NEEDLESSLY LATE
   pub prompt-here : Prompt s (Schedule s) (plan-in s (left .plan) .train) (plan-in s (left .plan) .departure)

@@ -6,13 +6,13 @@ use native.Mathlib.Omega.{arith}
 use lib.ListN.{set, take}
 use lib.Seq.{getD-take}
 use Rattle.numbers.specs.Counting.{at, row}
-use Rattle.rounds.specs.Timing.{ready}
+use Rattle.rounds.specs.Timing.{awaited}
 use Rattle.timing.specs.TimingStepLaws.{releases-none, releases-more}
 use Rattle.timing.proofs.releases.Statement.{statement}
 use Rattle.timing.proofs.releases.Tie as tie
 
 abbrev Inv-loop : tie.InvT-loop
-Inv-loop n release train released₀ j₀ released j = (j ≤ n) × (released ≡ row (ready (at release) (take n train) j) 32)
+Inv-loop n release train released₀ j₀ released j = (j ≤ n) × (released ≡ row (awaited (λ i. 0) (at release) (take n train) j) 32)
 
 abbrev μ-loop : tie.MeasureT-loop
 μ-loop n release train released₀ j₀ released j = n - j
@@ -34,7 +34,7 @@ loop-again c =
     let here : at (take (a .n) (a .t3)) (l .loop .j) ≡ t = getD-take (a .n) (a .t3) (l .loop .j) 0 (omega arith) in (
       omega arith,
       ap (set (l .loop .released) (t - 1)) (c .larger .ensures)
-          ∙ releases-more (at (a .t2)) (take (a .n) (a .t3)) 32 (l .loop .j) t (l .loop .released) (l .loop .inv .1) here some few,
+          ∙ releases-more _ (at (a .t2)) (take (a .n) (a .t3)) 32 (l .loop .j) t (l .loop .released) (l .loop .inv .1) here some few,
     )
 
 pub releases-spec : {M : Type 1} → statement M
