@@ -4,7 +4,9 @@ use mathlib.Core.Logic.{_↔_}
 use mathlib.Core.List.{List, []}
 use Prim.Native.Nat.{ℕ, _≤_}
 use Rattle.model.specs.Sheet.{Sheet}
+use Rattle.model.specs.Admission.{Admitted}
 use Rattle.model.specs.declared.Refusal.the-variants.{NoSchedule}
+use Rattle.rounds.specs.Outset.{Outset}
 use Rattle.rounds.specs.Timing.{Timed, stopped, timed}
 use Rattle.rounds.specs.Recording.{Entry}
 use Rattle.rounds.specs.ListedPairs.{FrontAmong}
@@ -14,7 +16,7 @@ use Rattle.rounds.specs.RoundsBound.{rounds-bound}
 use Rattle.rounds.specs.Answers.{Answer, refused, given, Listing, list-of, list-from}
 use Rattle.rounds.specs.ListLaws.{list-given}
 use Rattle.rounds.specs.PairListLaws.{apart}
-use Rattle.rounds.specs.AimLaws.{Aim, rounds-of, search-of}
+use Rattle.rounds.specs.AimLaws.{Sets, KeepsTo, Aim, set-out, rounds-of, search-of}
 use Rattle.rounds.specs.InvariantLaws.{Over, at-end, search-over, search-at-end, at-start, next-schedule}
 use Rattle.rounds.specs.EndLaws.{Unschedulable, ListsFront, Found, nothing, entries, found}
 
@@ -89,3 +91,12 @@ module _ (s : Sheet) (a : Aim s) where
 
       first-stops : first-timing-from s (a .outset) ≡ stopped → rounds-of s a 1 ≡ ended 1 []
       first-stops e = ap (depart s (a .outset) 1 _ above-everything [] (first-train-from s (a .outset))) e
+
+-- ---- FROM ANY OUTSET: the front of the schedules that keep to it, or 8 exactly where there is none
+
+module _ (s : Sheet) (a : Admitted s) (o : Outset) (h : Sets s o) where
+  pub front-kept : {l : Listing} → list-from s o ≡ given l → FrontAmong s (KeepsTo s o) (l .pairs)
+  front-kept = front-listed s (set-out s a o h)
+
+  pub none-kept : list-from s o ≡ refused NoSchedule ↔ ((train departure : List ℕ) → ¬ KeepsTo s o train departure)
+  none-kept = (eight-means s (set-out s a o h), eight-given s (set-out s a o h))

@@ -56,5 +56,7 @@ pub mod BoundCaseLaws
 pub mod SizeLaws
 pub mod ShortCases
 pub mod ShortCaseLaws
+pub mod OutsetCases
+pub mod OutsetCaseLaws
 pub mod PromptCases
 pub mod PromptCaseLaws
