@@ -11,7 +11,7 @@ use Rattle.rounds.specs.Timing.{Timed, stopped, timed}
 use Rattle.rounds.specs.Recording.{Entry}
 use Rattle.rounds.specs.ListedPairs.{FrontAmong}
 use Rattle.rounds.specs.Rounds.{Search, ended, rounds-in, recorded-in, above-everything, depart}
-use Rattle.rounds.specs.Rounds.{start-from, first-train-from, first-timing-from, round-from, rounds-from}
+use Rattle.rounds.specs.Rounds.{start-from, loading-from, first-timing-from, round-from, rounds-from}
 use Rattle.rounds.specs.RoundsBound.{rounds-bound}
 use Rattle.rounds.specs.Answers.{Answer, refused, given, Listing, list-of, list-from}
 use Rattle.rounds.specs.ListLaws.{list-given}
@@ -87,10 +87,10 @@ module _ (s : Sheet) (a : Aim s) where
     where
       go : list-from s (a .outset) ≡ refused NoSchedule → (t : Timed) → first-timing-from s (a .outset) ≡ t → t ≡ stopped
       go e stopped u = refl
-      go e (timed S F W) u = absurd (eight-means e (first-train-from s (a .outset)) S (next-schedule s a 0 0 _ above-everything [] (at-start s a) S F W u))
+      go e (timed S F W) u = absurd (eight-means e _ S (next-schedule s a 0 0 _ above-everything [] (at-start s a) S F W u))
 
       first-stops : first-timing-from s (a .outset) ≡ stopped → rounds-of s a 1 ≡ ended 1 []
-      first-stops e = ap (depart s (a .outset) 1 _ above-everything [] (first-train-from s (a .outset))) e
+      first-stops e = ap (depart s (a .outset) 1 _ above-everything [] (loading-from s (a .outset) (a .outset .latest))) e
 
 -- ---- FROM ANY OUTSET: the front of the schedules that keep to it, or 8 exactly where there is none
 

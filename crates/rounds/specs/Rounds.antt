@@ -45,12 +45,9 @@ loading-from s o latest = load (s .orders) (s .trains) (s .release) (o .capacity
 abbrev pub times-from : Sheet → Outset → (train : List ℕ) → Timed
 times-from s o train = timing (s .paths) (s .trains) (awaited (o .since) (s .release) train (s .orders))
 
--- steps 1 and 2 of round 1
-abbrev pub first-train-from : Sheet → Outset → List ℕ
-first-train-from s o = loading-from s o (o .latest)
-
+-- step 2 of round 1
 abbrev pub first-timing-from : Sheet → Outset → Timed
-first-timing-from s o = times-from s o (first-train-from s o)
+first-timing-from s o = times-from s o (loading-from s o (o .latest))
 
 -- steps 4 and 5, at the limit y
 unfoldable pub settle : Sheet → Outset → (rounds : ℕ) (latest : List ℕ) (y : ℤ) (recorded : List Entry) (F : ℕ → ℕ) → Search
@@ -100,7 +97,7 @@ unfoldable pub search-from : Sheet → Outset → Search
 unfolding rounds-from start-from rounds-bound
 search-from s o = rounds-from s o (rounds-bound s) (start-from o)
 
--- ---- document 01's own rounds: all of it, from the sheet alone
+-- ---- document 01's own rounds: each of these from the sheet alone
 
 abbrev pub start : Sheet → Search
 start s = start-from (ordinary s)
