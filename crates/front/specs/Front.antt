@@ -1,6 +1,6 @@
 -- THE ROUNDS LIST THE MODEL'S PARETO FRONT. Sheets, schedules and pairs are those of `model`, rounds and answers those of `rounds`; what holds of
--- an entry stands in rounds/specs/EntryPlan.antt, of a chosen pair in ChosenPair.antt, the calls of a search in ByRound.antt, and `rounds-bound` in
--- RoundsBound.antt. Each theorem cites laws of other files, and assumes nothing.
+-- the listed pairs stands in rounds/specs/ListedPairs.antt, of an entry in EntryPlan.antt, of a chosen pair in ChosenPair.antt, the calls of a search in
+-- ByRound.antt, and `rounds-bound` in RoundsBound.antt. Each theorem cites laws of other files, and assumes nothing.
 use mathlib.Core.Path.{_≡_, ap, _∙_}
 use mathlib.Core.Logic.{_↔_}
 use mathlib.Core.Bool.{true}

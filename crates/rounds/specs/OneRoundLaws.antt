@@ -114,6 +114,7 @@ module _ (s : Sheet) (a : Aim s) (k c : ℕ) (latest : List ℕ) (y : ℤ) (reco
   abbrev released : ℕ → ℕ
   released = awaited (o .since) (s .release) train n
 
+  -- the latest trains are trains
   low : (j : ℕ) → j < n → at latest j ≤ q
   low = upto s a g
 
@@ -130,7 +131,7 @@ module _ (s : Sheet) (a : Aim s) (k c : ℕ) (latest : List ℕ) (y : ℤ) (reco
   within : (j : ℕ) → j < n → at train j ≤ q
   within j l = loaded j l .1
 
-  -- any schedule that keeps to the latest trains departs after the releases of this loading
+  -- any of the schedules that keeps to the latest trains waits for all that this loading awaits
   covered : (other departure : List ℕ) → a .Among other departure → Keeps s latest other → Covers q released (nth departure)
   covered other departure h keeps i p l =
       awaited-least (o .since) (s .release) train i (nth departure i) n (a .keeps-to other departure h .waits i p l)
@@ -176,7 +177,7 @@ module _ (s : Sheet) (a : Aim s) (k c : ℕ) (latest : List ℕ) (y : ℤ) (reco
     abbrev entry : Entry
     entry = record { pair = record { last = nth F q; worst = z }; plan = plan }
 
-    -- this round's plan is a schedule, and its pair is what step 3 records
+    -- this round's plan is a schedule
     schedule : Schedule s train S
     schedule =
         record {
@@ -202,6 +203,7 @@ module _ (s : Sheet) (a : Aim s) (k c : ℕ) (latest : List ℕ) (y : ℤ) (reco
     pub among : a .Among train S
     among = a .made train S (record { keeps-to = keeps-to; awaits = cov; least = least })
 
+    -- and its pair is what step 3 records
     pair-is : pairOf s train S ≡ entry .pair
     pair-is =
         let last-is : arrival (s .paths) (nth S) q ≡ nth F q = sym (arrives q (a .admitted .complete .trains) (omega arith)) in
