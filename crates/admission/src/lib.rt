@@ -1,4 +1,6 @@
 // Admission: whether a sheet in memory passes the tests 4, 5, 2, 6 and 7, in that order, or the refusal of the first that fails.
+#![tactic(auto)]
+
 mod columns;
 mod tests;
 

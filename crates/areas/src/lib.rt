@@ -1,4 +1,6 @@
 // What is read in the areas that the planning calls leave.
+#![tactic(auto)]
+
 ghost use Rattle.std.specs.Prelude.{◌≡◌, ◌*◌, take};
 ghost use Rattle.model.specs.Limits.{numbers_a_pair, numbers_a_train};
 ghost use Rattle.areas.specs.Wish.{arrival_of, ForLast};

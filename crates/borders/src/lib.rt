@@ -1,4 +1,6 @@
 // The borders of the two forms: from the struct of one form to a sheet, and back.
+#![tactic(auto)]
+
 ghost use Rattle.std.specs.Prelude.{◌≡◌};
 ghost use Rattle.model.specs.Memory.{from_windows, to_windows, from_timetable, to_timetable};
 

@@ -1,4 +1,6 @@
 // The list's length known beforehand (document 02, No. 6): a figure that neither the rounds nor the pairs of any search of a sheet exceed. No round is made.
+#![tactic(auto)]
+
 ghost use Rattle.std.specs.Prelude.{◌≡◌, min};
 ghost use Rattle.model.specs.Memory.{sheet_of, window_sheet, timetable_sheet};
 ghost use Rattle.model.specs.Admission.{Admitted};

@@ -3,6 +3,8 @@
 // `replanning`, for the window form, listing and choosing behind trains that have gone. Not exported are a name as a part of the text, the tests
 // of a sheet alone, and printing. The calls take and return numbers, slices (in C a pointer, then a length) and structs laid out as in C, those of `exported`
 // among them, and ask nothing of their caller. include/joshkamber.h declares them.
+#![tactic(auto)]
+
 pub mod bounding;
 pub mod checking;
 pub mod replanning;

@@ -1,4 +1,6 @@
 // What checking a plan returns.
+#![tactic(auto)]
+
 ghost use Rattle.std.specs.Prelude.{◌≡◌};
 ghost use Rattle.checked.specs.ExportedChecking.{check_of};
 
@@ -8,7 +10,7 @@ use model::CheckReply;
 // What checking a plan gives: its pair, last arrival and worst weighted lateness, whether that pair is listed, how many pairs are listed and how many rounds
 // were made; or the cause beside noughts.
 #[repr(C)]
-#[derive(Drop)]
+#[derive(Clone, Copy)]
 pub struct Check {
     pub cause: Cause,
     pub last: u32,

@@ -12,7 +12,7 @@ use rules::is_schedule;
 use rules::pair::pair_of;
 
 // The pair of a plan that keeps every rule, or the refusal of the first test that fails.
-#[derive(Drop)]
+#[derive(Clone, Copy)]
 pub enum Judgement {
     Kept { last: u32, worst: i64 },
     Broken(Refusal),

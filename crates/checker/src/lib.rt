@@ -1,4 +1,6 @@
 // Checking: whether a foreign plan is a schedule of a sheet, its pair, and whether that pair is listed. The pairs area takes the list.
+#![tactic(auto)]
+
 mod judging;
 mod listed;
 

@@ -1,5 +1,7 @@
 // Choosing: the plan of the last listed pair that is not later than a wished arrival. A sheet in memory goes in by value, and a call is lent the areas for
 // trains and times.
+#![tactic(auto)]
+
 ghost use Rattle.std.specs.Prelude.{◌≡◌};
 ghost use Rattle.model.specs.Memory.{sheet_of, window_sheet, timetable_sheet};
 ghost use Rattle.model.specs.Admission.{Admitted};

@@ -1,4 +1,6 @@
 // Columns of trains: train i stands at place i - 1.
+#![tactic(auto)]
+
 ghost use Rattle.std.specs.Prelude.{◌≡◌, ◌≤◌, max, leb};
 ghost use Rattle.numbers.specs.Counting.{nth, each};
 ghost use Rattle.model.specs.Limits.{train_counts};

@@ -1,4 +1,6 @@
 // From the text of a sheet to the bytes of its printed plan.
+#![tactic(auto)]
+
 ghost use Rattle.std.specs.Prelude.{◌≡◌, List, ℤ};
 ghost use Rattle.model.specs.Memory.{sheet_of};
 ghost use Rattle.model.specs.declared.ListReply.TheVariants.{Listed};

@@ -7,7 +7,7 @@ use model::BoundReply;
 
 // The figure that neither the rounds nor the pairs of any search of the sheet exceed, or the cause beside 0.
 #[repr(C)]
-#[derive(Drop)]
+#[derive(Clone, Copy)]
 pub struct Bound {
     pub cause: Cause,
     pub most: usize,

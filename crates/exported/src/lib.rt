@@ -1,5 +1,7 @@
 // What the exported calls return: structs laid out as in C, in document 01's numbers. Here a cause, a text as read, a listing and a choice, and in `bounding` a
 // figure; `checked` and `watched` have what those calls return, and `capi` the calls.
+#![tactic(auto)]
+
 pub mod bounding;
 
 ghost use Rattle.std.specs.Prelude.{◌≡◌};
@@ -10,7 +12,7 @@ use model::{Admission, ChoiceReply, ListReply, Refusal, TimetableSheet, WindowSh
 
 // Why an input is refused: document 01's number and returned value. 0 and 0 say that it is not.
 #[repr(C)]
-#[derive(Drop)]
+#[derive(Clone, Copy)]
 pub struct Cause {
     pub number: usize,
     pub returned: usize,
@@ -18,7 +20,7 @@ pub struct Cause {
 
 // A text of the window form as read: the sheet, or the cause beside the empty sheet.
 #[repr(C)]
-#[derive(Drop)]
+#[derive(Clone, Copy)]
 pub struct WindowsRead {
     pub cause: Cause,
     pub sheet: WindowSheet,
@@ -26,7 +28,7 @@ pub struct WindowsRead {
 
 // The same for the timetable form.
 #[repr(C)]
-#[derive(Drop)]
+#[derive(Clone, Copy)]
 pub struct TimetableRead {
     pub cause: Cause,
     pub sheet: TimetableSheet,
@@ -34,7 +36,7 @@ pub struct TimetableRead {
 
 // What listing the pairs of a sheet gives: how many pairs are listed and how many rounds were made, or the cause beside 0 and 0.
 #[repr(C)]
-#[derive(Drop)]
+#[derive(Clone, Copy)]
 pub struct Listing {
     pub cause: Cause,
     pub pairs: usize,
@@ -43,7 +45,7 @@ pub struct Listing {
 
 // What choosing a plan gives: the pair that was chosen, last arrival and worst weighted lateness, or the cause beside 0 and 0.
 #[repr(C)]
-#[derive(Drop)]
+#[derive(Clone, Copy)]
 pub struct Choice {
     pub cause: Cause,
     pub last: u32,

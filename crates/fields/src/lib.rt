@@ -1,4 +1,6 @@
 // Fields of a text: a number or a name behind a comma, at a position of the text, and names by their places in it.
+#![tactic(auto)]
+
 pub mod bytes;
 pub mod name;
 pub mod number;
@@ -6,21 +8,21 @@ pub mod number;
 use model::limits::MOST_ORDERS;
 
 // The bytes that a field is made of.
-#[derive(Drop)]
+#[derive(Clone, Copy)]
 pub enum Alphabet {
     Digits,
     NameBytes,
 }
 
 // A number field: its value and the position after it.
-#[derive(Drop)]
+#[derive(Clone, Copy)]
 pub enum Field {
     Number(u32, usize),
     Other,
 }
 
 // A name field: where the name starts and how long it is.
-#[derive(Drop)]
+#[derive(Clone, Copy)]
 pub enum NameField {
     Name(usize, usize),
     Other,
@@ -28,14 +30,14 @@ pub enum NameField {
 
 // Where a name starts in the text, and how many bytes it has.
 #[repr(C)]
-#[derive(Drop)]
+#[derive(Clone, Copy)]
 pub struct NamePlace {
     pub start: usize,
     pub length: usize,
 }
 
 // Where the names of a text's orders start, and how many bytes they have: the first `count` elements of each column.
-#[derive(Drop)]
+#[derive(Clone, Copy)]
 pub struct NamePlaces {
     pub count: usize,
     pub start: [usize; MOST_ORDERS],

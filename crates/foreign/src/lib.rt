@@ -1,4 +1,6 @@
 // A foreign plan in columns: the train of each order, gathered from rows in whatever order they stand, and the departure of each train.
+#![tactic(auto)]
+
 pub mod fit;
 
 ghost use Rattle.std.specs.Prelude.{◌≡◌, length};
@@ -9,7 +11,7 @@ use model::limits::{MOST_ORDERS, MOST_TRAINS, in_range};
 
 // What some rows say: the train of each order, by place, 0 for one that they do not name. They are sound if they name no order twice, and no order or train
 // that no sheet has.
-#[derive(Drop)]
+#[derive(Clone, Copy)]
 pub struct Given {
     pub train: [u8; MOST_ORDERS],
     pub sound: bool,

@@ -1,4 +1,6 @@
 // The part of a plan that has gone (document 02, No. 13), in columns: test 21 of it, and what a search behind it sets out from.
+#![tactic(auto)]
+
 mod behind;
 mod well;
 
@@ -22,7 +24,7 @@ use search::Outset;
 use search::start::ordinary;
 
 // Whether a search can be made behind the gone trains, and if so from where.
-#[derive(Drop)]
+#[derive(Clone, Copy)]
 pub struct Ready {
     pub admission: Admission,
     pub outset: Outset,

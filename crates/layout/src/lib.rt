@@ -1,4 +1,6 @@
 // Document 01, "The printed plan", and document 02, No. 2: the lines, as bytes in a lent buffer. The bytes are defined in specs/Lines.antt.
+#![tactic(auto)]
+
 ghost use Rattle.std.specs.Prelude.{◌≡◌, ◌/◌, length};
 ghost use Rattle.model.specs.Limits.{numbers_a_pair, numbers_a_train};
 ghost use Rattle.layout.specs.Lines.{pair_line, time_line, order_line, rounds_line, refusal_line, pair_lines, time_lines, name_of, order_lines};

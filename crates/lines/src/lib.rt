@@ -1,4 +1,6 @@
 // Lines of a sheet's text: a line at a position, field by field, as the record of its kind. `line` is its number.
+#![tactic(auto)]
+
 mod kinds;
 
 ghost use Rattle.std.specs.Prelude.{◌≡◌, ◌<◌, length};
@@ -10,27 +12,27 @@ use kinds::{malformed, number_fields};
 use model::Refusal;
 
 // The record of a line `G,gap`.
-#[derive(Drop)]
+#[derive(Clone, Copy)]
 pub struct Gap {
     pub gap: u32,
 }
 
 // The record of a line `W,from,to`.
-#[derive(Drop)]
+#[derive(Clone, Copy)]
 pub struct Window {
     pub from: u32,
     pub to: u32,
 }
 
 // The record of a line `T,capacity,running`.
-#[derive(Drop)]
+#[derive(Clone, Copy)]
 pub struct Train {
     pub capacity: u32,
     pub running: u32,
 }
 
 // The record of a line `X,capacity,departure,arrival`.
-#[derive(Drop)]
+#[derive(Clone, Copy)]
 pub struct FixedTrain {
     pub capacity: u32,
     pub departure: u32,
@@ -38,7 +40,7 @@ pub struct FixedTrain {
 }
 
 // The record of a line `O,name,release,due,weight`: the name by its place in the text.
-#[derive(Drop)]
+#[derive(Clone, Copy)]
 pub struct Order {
     pub name_start: usize,
     pub name_length: usize,
@@ -47,7 +49,7 @@ pub struct Order {
     pub weight: u32,
 }
 
-#[derive(Drop)]
+#[derive(Clone, Copy)]
 pub enum Line {
     Gap(Gap),
     Window(Window),
@@ -57,7 +59,7 @@ pub enum Line {
 }
 
 // A line at a position: its record and the position after it, or refusal 1.
-#[derive(Drop)]
+#[derive(Clone, Copy)]
 pub enum LineAt {
     Read(Line, usize),
     Refused(Refusal),

@@ -1,4 +1,6 @@
 // Listing: the pairs, and how many rounds were made. A sheet in memory goes in by value, and a call is lent the pairs area alone.
+#![tactic(auto)]
+
 ghost use Rattle.std.specs.Prelude.{◌≡◌};
 ghost use Rattle.model.specs.Memory.{sheet_of, window_sheet, timetable_sheet};
 ghost use Rattle.model.specs.Admission.{Admitted};

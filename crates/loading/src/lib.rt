@@ -1,6 +1,8 @@
 // Step 1 of a round: loading. It begins from the trains of the round before, which must be orderly for the latest trains of this one: orders that are too
 // late lose their trains, and then each train, from the last down, takes in the greatest order that could come while there is room or that order beats the
 // least on the train. `BeginLaws` shows that this is the loading of document 01, whatever trains it began from.
+#![tactic(auto)]
+
 ghost use Rattle.std.specs.Prelude.{◌≡◌, ◌-◌, ◌%◌, ◌≤◌, take};
 ghost use Rattle.numbers.specs.Counting.{at, nth};
 ghost use Rattle.model.specs.Limits.{train_counts, capacity_range};

@@ -1,4 +1,6 @@
 // Steps 4 and 5 of a round: the latest trains.
+#![tactic(auto)]
+
 pub mod lateness;
 
 ghost use Rattle.std.specs.Prelude.{◌≡◌, ◌≤◌, leb, ltb, take};

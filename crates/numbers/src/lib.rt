@@ -1,1 +1,3 @@
 // No code: counting words and their laws stand in specs/.
+#![tactic(auto)]
+

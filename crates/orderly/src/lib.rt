@@ -1,4 +1,6 @@
 // Whether trains that come from outside are such as a loading may begin from.
+#![tactic(auto)]
+
 ghost use Rattle.std.specs.Prelude.{◌≡◌, ℕ, ◌≤◌, ◌<◌, length};
 ghost use Rattle.numbers.specs.Counting.{at, nth};
 ghost use Rattle.numbers.specs.DecidesLaws.{Decides};

@@ -1,4 +1,6 @@
 // The places on trains, and test 7 of a text and of a sheet in memory. Inner: both ask for no more trains than there may be.
+#![tactic(auto)]
+
 ghost use Rattle.std.specs.Prelude.{◌≡◌, ◌≤◌, leb, length};
 ghost use Rattle.numbers.specs.Counting.{nth};
 ghost use Rattle.model.specs.Sheet.{places};

@@ -1,4 +1,6 @@
 // Plans the sheet on standard input, and prints the plan or the refusal.
+#![tactic(auto)]
+
 use libc::STDIN_FILENO;
 
 fn main() {

@@ -1,4 +1,6 @@
 // Document 01, "The printed plan": a plan or a refusal as bytes in a lent buffer, which stays as found where they do not fit.
+#![tactic(auto)]
+
 ghost use Rattle.std.specs.Prelude.{◌≡◌};
 ghost use Rattle.writing.specs.Writing.{Prints, state, pass};
 ghost use Rattle.layout.specs.Lines.{refusal_line};

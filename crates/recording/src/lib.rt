@@ -1,4 +1,6 @@
 // Step 3 of a round: a pair and its plan, to the lent areas. The list's part and the plan's part are apart.
+#![tactic(auto)]
+
 ghost use Rattle.std.specs.Prelude.{◌≡◌, ◌+◌, ◌*◌, ◌<◌, ◌≤◌, length, take};
 ghost use Rattle.numbers.specs.Over.{over};
 ghost use Rattle.model.specs.Limits.{most_pairs, numbers_a_pair, numbers_a_train, train_counts, order_counts};

@@ -1,5 +1,7 @@
 // Replanning after some trains have gone (document 02, No. 13): the two calls of planning, behind the gone trains. Only window sheets are meant. The gone part
 // is one departure for each gone train, and rows of order and train.
+#![tactic(auto)]
+
 ghost use Rattle.model.specs.Memory.{sheet_of};
 ghost use Rattle.rounds.specs.Told.{areas};
 ghost use Rattle.foreign.specs.Gathered.{OfRows};
@@ -15,7 +17,7 @@ use model::{Admission, ChoiceReply, ListReply, Row, Sheet, WindowSheet};
 
 // A sheet of the window form that is planned anew at a minute, when some of its first trains have left.
 #[repr(C)]
-#[derive(Drop)]
+#[derive(Clone, Copy)]
 pub struct WindowsAt {
     pub sheet: WindowSheet,
     pub minute: u32,

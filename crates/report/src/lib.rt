@@ -1,4 +1,6 @@
 // What the programs print: the plan of a text or its refusal, to standard output.
+#![tactic(auto)]
+
 use libc::STDOUT_FILENO;
 use model::limits::MOST_PRINTED;
 

@@ -82,7 +82,7 @@ pub fn least_on(n: usize, i: u8, release: &[u32; MOST_ORDERS], train: &[u8; MOST
 }
 
 // The riders of each train, and of none at place 0: how many they are, and the least standing among them.
-#[derive(Drop)]
+#[derive(Clone, Copy)]
 pub struct Riders {
     pub riders: [u8; TRAINS_AND_NONE],
     pub low: [u32; TRAINS_AND_NONE],

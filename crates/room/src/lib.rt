@@ -1,5 +1,7 @@
 // The tests before the rounds: 4, 5, 2, 6 and 7 of the sheet, then 10, whether the areas that the call fills have room. Inner: planning, checking and
 // watching begin with it.
+#![tactic(auto)]
+
 ghost use Rattle.std.specs.Prelude.{◌≡◌, ◌&&◌, cond, ◌*◌, ◌≤◌, leb};
 ghost use Rattle.model.specs.Limits.{train_counts, numbers_a_train};
 ghost use Rattle.model.specs.Memory.{sheet_of};

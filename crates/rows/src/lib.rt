@@ -1,4 +1,6 @@
 // The lines of each kind that a sheet has many of, gathered in columns: their tests after those above them, and one more of them.
+#![tactic(auto)]
+
 pub mod faults;
 pub mod order_lines;
 pub mod train_lines;
@@ -7,7 +9,7 @@ pub mod window_lines;
 use model::limits::{MOST_ORDERS, MOST_TRAINS, MOST_WINDOWS};
 
 // The tests of a line after those above it, each true where it passes: 3, 4, 2 and 6 of document 01's table.
-#[derive(Drop)]
+#[derive(Clone, Copy)]
 pub struct LineTests {
     pub late_enough: bool,
     pub few: bool,
@@ -16,7 +18,7 @@ pub struct LineTests {
 }
 
 // The W lines so far, in columns.
-#[derive(Drop)]
+#[derive(Clone, Copy)]
 pub struct WindowRows {
     pub count: usize,
     pub from: [u32; MOST_WINDOWS],
@@ -24,7 +26,7 @@ pub struct WindowRows {
 }
 
 // The T lines so far, or the X lines; the columns of the other kind are noughts.
-#[derive(Drop)]
+#[derive(Clone, Copy)]
 pub struct TrainRows {
     pub count: usize,
     pub capacity: [u32; MOST_TRAINS],
@@ -34,7 +36,7 @@ pub struct TrainRows {
 }
 
 // The O lines so far; each order's name by its place in the text.
-#[derive(Drop)]
+#[derive(Clone, Copy)]
 pub struct OrderRows {
     pub count: usize,
     pub release: [u32; MOST_ORDERS],

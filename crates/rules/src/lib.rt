@@ -1,4 +1,6 @@
 // The rules of a schedule, tested of a plan in columns, and the pair of a plan that keeps them. Train i stands at place i - 1 of every list of trains.
+#![tactic(auto)]
+
 pub mod departures;
 pub mod pair;
 

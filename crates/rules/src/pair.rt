@@ -12,7 +12,7 @@ use model::Sheet;
 use model::limits::{MOST_ORDERS, MOST_TRAINS};
 
 // A last arrival and a worst weighted lateness.
-#[derive(Drop)]
+#[derive(Clone, Copy)]
 pub struct PlanPair {
     pub last: u32,
     pub worst: i64,

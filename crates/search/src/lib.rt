@@ -1,5 +1,7 @@
 // The search: the rounds on an admitted sheet, one at a time, from an outset; document 01's own are those from the sheet alone. What a round records it leaves
 // in the progress, for its caller to keep.
+#![tactic(auto)]
+
 pub mod fit;
 pub mod round;
 pub mod start;
@@ -8,7 +10,7 @@ use model::limits::{MOST_ORDERS, MOST_TRAINS};
 
 // What a search sets out from: the places of each train, of which there may be none; each order's latest train at first; and the instant from which each
 // train may leave.
-#[derive(Drop)]
+#[derive(Clone, Copy)]
 pub struct Outset {
     pub capacity: [u32; MOST_TRAINS],
     pub latest: [u8; MOST_ORDERS],
@@ -18,7 +20,7 @@ pub struct Outset {
 // Where a search stands between rounds: each order's latest train, and its train in the last round, from which the next loading begins; the last round's
 // times, and whether that plan was recorded (better than all before); the limit and the last arrival of the pair recorded last; how many rounds were made,
 // and whether the search has ended.
-#[derive(Drop)]
+#[derive(Clone, Copy)]
 pub struct Progress {
     pub latest: [u8; MOST_ORDERS],
     pub train: [u8; MOST_ORDERS],

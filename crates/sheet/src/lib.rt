@@ -1,4 +1,6 @@
 // Document 01, "The sheet": a text becomes a sheet in memory, or is refused with its first fault.
+#![tactic(auto)]
+
 mod sheets;
 mod text_reader;
 mod walk;
@@ -17,21 +19,21 @@ use gather::SheetLines;
 use model::{Admission, Form, Sheet, TimetableSheet, WindowSheet};
 
 // All lines of a text; none where it is refused.
-#[derive(Drop)]
+#[derive(Clone, Copy)]
 struct SheetText {
     admission: Admission,
     lines: SheetLines,
 }
 
 // A text and the position in it.
-#[derive(Drop)]
+#[derive(Clone, Copy)]
 struct Reader<'a> {
     text: &'a [u8],
     at: usize,
 }
 
 // What reading a text gives: what the tests say of it, the sheet, and where the names of its orders stand; beside a refusal the empty sheet and no names.
-#[derive(Drop)]
+#[derive(Clone, Copy)]
 pub struct Reading {
     pub admission: Admission,
     pub sheet: Sheet,
@@ -55,7 +57,7 @@ pub fn read(text: &[u8], form: Form) -> Reading
 }
 
 // What `read` gives, with the struct of the window form.
-#[derive(Drop)]
+#[derive(Clone, Copy)]
 pub struct WindowReading {
     pub admission: Admission,
     pub sheet: WindowSheet,
@@ -79,7 +81,7 @@ pub fn read_windows(text: &[u8]) -> WindowReading
 }
 
 // What `read` gives, with the struct of the timetable form.
-#[derive(Drop)]
+#[derive(Clone, Copy)]
 pub struct TimetableReading {
     pub admission: Admission,
     pub sheet: TimetableSheet,

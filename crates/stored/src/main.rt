@@ -1,4 +1,6 @@
 // Plans each stored sheet that the file `list` names, and prints its name and its plan.
+#![tactic(auto)]
+
 use libc::STDOUT_FILENO;
 
 fn plan_file(name: &[u8]) {

@@ -1,4 +1,6 @@
 // Step 2 of a round: the departures, arrivals and windows of the trains. Train i stands at place i - 1 of every list.
+#![tactic(auto)]
+
 ghost use Rattle.std.specs.Prelude.{◌≡◌, ◌≤◌, take};
 ghost use Rattle.numbers.specs.Counting.{at, nth, row};
 ghost use Rattle.model.specs.Memory.{windows_of, sheet_of};
@@ -17,14 +19,14 @@ use model::{Form, Sheet};
 const NEVER: u32 = LAST_INSTANT + 1;
 
 // The departures of the trains in the window form, and the windows, from 1, in which they leave.
-#[derive(Drop)]
+#[derive(Clone, Copy)]
 struct Leaving {
     departure: [u32; MOST_TRAINS],
     window: [u8; MOST_TRAINS],
 }
 
 // The departures, arrivals and windows of the trains; `runs` is false where step 2 stops the round. A timetable's windows are 0.
-#[derive(Drop)]
+#[derive(Clone, Copy)]
 pub struct Times {
     pub runs: bool,
     pub departure: [u32; MOST_TRAINS],

@@ -1,5 +1,7 @@
 // A search that is watched (document 02, No. 4): started, moved by one round a call, and looked at between rounds. The caller holds the state from call to
 // call, and lends the same sheet and areas to each.
+#![tactic(auto)]
+
 mod fit;
 mod keeping;
 pub mod look;
@@ -12,7 +14,7 @@ use model::{Admission, RoundReply};
 // Where a search stands between two calls, laid out as in C: how many pairs are recorded and how many rounds were made, the limit, the last arrival of the pair
 // recorded last, whether the search has ended (not 0), each order's train in the last round (0 for none), and its latest train. Any numbers may stand in it.
 #[repr(C)]
-#[derive(Drop)]
+#[derive(Clone, Copy)]
 pub struct State {
     pub pairs: usize,
     pub rounds: usize,
@@ -24,14 +26,14 @@ pub struct State {
 }
 
 // What a start gives: the state, or the refusal beside noughts.
-#[derive(Drop)]
+#[derive(Clone, Copy)]
 pub struct Started {
     pub admission: Admission,
     pub state: State,
 }
 
 // What a round call gives: the next state, and whether the search goes on.
-#[derive(Drop)]
+#[derive(Clone, Copy)]
 pub struct Moved {
     pub state: State,
     pub reply: RoundReply,

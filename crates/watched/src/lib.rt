@@ -1,4 +1,6 @@
 // What starting a search and moving it by one round return.
+#![tactic(auto)]
+
 ghost use Rattle.std.specs.Prelude.{◌≡◌};
 ghost use Rattle.watched.specs.ExportedWatching.{start_of, round_of};
 
@@ -8,7 +10,7 @@ use watch::{Moved, Started, State};
 
 // What a start gives: the state, or the cause beside noughts.
 #[repr(C)]
-#[derive(Drop)]
+#[derive(Clone, Copy)]
 pub struct Start {
     pub cause: Cause,
     pub state: State,
@@ -17,7 +19,7 @@ pub struct Start {
 // What a round call gives: the next state, and whether the search has ended; then how many pairs are listed and how many rounds were made, or the cause beside
 // 0 and 0.
 #[repr(C)]
-#[derive(Drop)]
+#[derive(Clone, Copy)]
 pub struct Round {
     pub cause: Cause,
     pub ended: bool,

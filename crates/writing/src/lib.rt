@@ -1,17 +1,19 @@
 // Bytes, numbers and names, put into a lent buffer behind those before them. Where `writing` is false they are only counted.
+#![tactic(auto)]
+
 ghost use Rattle.std.specs.Prelude.{◌≡◌, [], ◌∷◌, nat_abs};
 ghost use Rattle.writing.specs.Decimal.{decimal, signed, field};
 ghost use Rattle.writing.specs.Writing.{state, pass};
 
 // Where the next byte goes in the buffer, or that a byte did not fit.
-#[derive(Drop)]
+#[derive(Clone, Copy)]
 pub enum Place {
     At(usize),
     Past,
 }
 
 // What a printing call answers: how many bytes it wrote to the front of the buffer, or that they do not fit, with the buffer as found.
-#[derive(Drop)]
+#[derive(Clone, Copy)]
 pub enum Printed {
     Bytes(usize),
     TooShort,
