@@ -1,3 +1,2 @@
 pub mod ColumnTests
-pub mod ColumnTestLaws
 pub mod FirstRefusal

@@ -1,2 +1,1 @@
 pub mod Wish
-pub mod WishLaws

@@ -1,3 +1,1 @@
 pub mod BoundCall
-pub mod BoundCallLaws
-pub mod FigureLaws

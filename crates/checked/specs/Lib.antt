@@ -1,2 +1,1 @@
 pub mod ExportedChecking
-pub mod ExportedCheckingLaws

@@ -1,6 +1,2 @@
 pub mod Checking
 pub mod Judging
-pub mod ListedLaws
-pub mod JudgingLaws
-pub mod CheckingLaws
-pub mod OwnPlans

@@ -1,8 +1,2 @@
 pub mod Printing
 pub mod AnswerBytes
-pub mod ListedLaws
-pub mod WishLaws
-pub mod AsBeforeLaws
-pub mod FitLaws
-pub mod PrintingLaws
-pub mod CaseLaws

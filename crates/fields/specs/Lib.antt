@@ -2,6 +2,4 @@ pub mod Texts
 pub mod Fields
 pub mod Numbers
 pub mod Names
-pub mod FieldLaws
 pub mod NamePlaces
-pub mod NameLaws

@@ -1,5 +1,1 @@
 pub mod Gathered
-pub mod RowAddedLaws
-pub mod GatheredLaws
-pub mod WithinLaws
-pub mod SomeRowsLaws

@@ -1,3 +1,2 @@
 pub mod SheetLines
 pub mod Tests
-pub mod SheetLinesLaws

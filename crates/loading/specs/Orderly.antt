@@ -1,7 +1,7 @@
 -- TRAINS THAT A LOADING MAY BEGIN FROM: those of the round before, or none at all. Train 0 means that an order has no train.
 use Rattle.std.specs.Prelude.{◌≡◌, List, ℕ, ◌≤◌, ◌<◌}
 use Rattle.numbers.specs.Counting.{at, count}
-use Rattle.rounds.specs.LoadingLaws.{Below, on}
+use Rattle.rounds.specs.Riding.{Below, on}
 use Rattle.rounds.specs.Settled.{Could}
 use Rattle.columns.specs.Columns.{UpTo}
 

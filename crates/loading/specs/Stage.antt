@@ -2,7 +2,7 @@
 use Rattle.std.specs.Prelude.{◌≡◌, List, ℕ, ◌≤◌, ◌<◌}
 use Rattle.numbers.specs.Counting.{at, count}
 use Rattle.model.specs.Limits.{train_counts}
-use Rattle.rounds.specs.LoadingLaws.{Below, on}
+use Rattle.rounds.specs.Riding.{Below, on}
 use Rattle.rounds.specs.Settled.{Could, SettledAbove}
 use Rattle.riders.specs.Standing.{standing}
 

@@ -1,7 +1,7 @@
 -- ONE TURN OF A TRAIN.
 use Rattle.std.specs.Prelude.{◌≡◌, Bool, true, false, ◌&&◌, ◌||◌, List, ℕ, ◌≤◌, ◌<◌, ltb, leb, eqb, set}
 use Rattle.numbers.specs.Counting.{count}
-use Rattle.rounds.specs.LoadingLaws.{on}
+use Rattle.rounds.specs.Riding.{on}
 use Rattle.riders.specs.Standing.{place, best, least}
 
 -- Whether train i needs a turn: it was full and has lost an order; or one without a train may ride it and finds room, or may beat one on it. Of the train

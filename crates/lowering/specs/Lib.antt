@@ -1,4 +1,2 @@
 pub mod Ranged
-pub mod RangedLaws
 pub mod SoFar
-pub mod LoweringStepLaws

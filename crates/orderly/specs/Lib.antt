@@ -1,2 +1,1 @@
 pub mod Bars
-pub mod BarLaws

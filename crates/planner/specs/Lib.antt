@@ -1,12 +1,5 @@
 pub mod InAreas
-pub mod InAreasLaws
 pub mod Listing
 pub mod Choosing
-pub mod AnsweredCallLaws
-pub mod ListingLaws
-pub mod ChoosingLaws
 pub mod Outcome
 pub mod SoFar
-pub mod SoFarLaws
-pub mod RunningLaws
-pub mod ChoiceRoundLaws

@@ -1,2 +1,1 @@
 pub mod PlanBytes
-pub mod PlanLengthLaws

@@ -1,2 +1,1 @@
 pub mod Recorded
-pub mod RecordingStepLaws

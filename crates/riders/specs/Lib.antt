@@ -1,5 +1,2 @@
 pub mod Standing
-pub mod StandingLaws
 pub mod Riders
-pub mod CountedLaws
-pub mod StepLaws

@@ -2,7 +2,7 @@
 use Rattle.std.specs.Prelude.{◌≡◌, cond, List, ℕ, ◌+◌, ◌≤◌, ◌<◌, leb, length}
 use Rattle.numbers.specs.Counting.{at, count}
 use Rattle.model.specs.Limits.{order_counts, train_counts, last_instant}
-use Rattle.rounds.specs.LoadingLaws.{on}
+use Rattle.rounds.specs.Riding.{on}
 use Rattle.columns.specs.Columns.{UpTo}
 
 -- how many of n orders ride each train, and at place 0 how many have none

@@ -2,7 +2,7 @@
 use Rattle.std.specs.Prelude.{◌≡◌, Bool, ◌&&◌, cond, List, ℕ, zero, suc, ◌+◌, ◌-◌, ◌*◌, ◌%◌, ◌≤◌, max, min, leb, ltb}
 use Rattle.numbers.specs.Counting.{at}
 use Rattle.model.specs.Limits.{train_counts}
-use Rattle.rounds.specs.LoadingLaws.{on}
+use Rattle.rounds.specs.Riding.{on}
 
 -- of the order at place j; it is never 0
 abbrev pub standing : (release : ℕ → ℕ) → ℕ → ℕ

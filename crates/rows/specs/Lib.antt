@@ -2,8 +2,3 @@ pub mod Faults
 pub mod WindowLines
 pub mod TrainLines
 pub mod OrderLines
-pub mod FaultLaws
-pub mod ColumnLaws
-pub mod OrderLaws
-pub mod WindowLaws
-pub mod TrainLaws

@@ -1,13 +1,5 @@
 pub mod Reading
-pub mod ReadingLaws
 pub mod Sheets
 pub mod ReadingCall
-pub mod TextLaws
-pub mod AdmissionLaws
 pub mod OrderNames
-pub mod NameLaws
-pub mod RefusedLaws
-pub mod ReturnedLaws
-pub mod ReadingCallLaws
 pub mod TextCases
-pub mod TextCaseLaws

@@ -1,2 +1,1 @@
 pub mod Timed
-pub mod TimingStepLaws

@@ -4,10 +4,3 @@ pub mod LeftBy
 pub mod Calls
 pub mod Advance
 pub mod AnyCalls
-pub mod StateLaws
-pub mod FitLaws
-pub mod CallLaws
-pub mod AdvanceLaws
-pub mod PlanLaws
-pub mod RoundCallLaws
-pub mod AnyCallsLaws

@@ -1,2 +1,1 @@
 pub mod ExportedWatching
-pub mod ExportedWatchingLaws

@@ -7,7 +7,7 @@ use Rattle.numbers.specs.DecidesLaws.{test_means}
 use Rattle.model.specs.Sheet.{Sheet}
 use Rattle.model.specs.Memory.{sheet_of}
 use Rattle.model.specs.Admission.{Few, few, complete, in_range, is_in_order, roomy, admission}
-use Rattle.model.specs.AdmissionLaws.{decides_few}
+use Rattle.model.proofs.AdmissionLaws.{decides_few}
 use Rattle.admission.specs.FirstRefusal.{first_refusal}
 use Rattle.admission.proofs.admit.Statement.{statement}
 use Rattle.admission.proofs.admit.Tie as tie

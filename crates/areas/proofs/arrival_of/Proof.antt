@@ -2,7 +2,7 @@
 use mir.Facts.{to_z-of_z}
 use mir.Syntax.{w64}
 use borrow.Author.Rules.{rules}
-use Rattle.areas.specs.WishLaws.{negative, too_great, IsArrival, an_arrival}
+use Rattle.areas.proofs.WishLaws.{negative, too_great, IsArrival, an_arrival}
 use Rattle.areas.proofs.arrival_of.Statement.{statement}
 use Rattle.areas.proofs.arrival_of.Tie as tie
 

@@ -2,9 +2,9 @@
 use borrow.Author.Rules.{rules}
 use mathlib.Core.Path.{sym, ap, ◌∙◌}
 use Rattle.model.specs.Memory.{sheet_of}
-use Rattle.model.specs.AdmissionLaws.{admitted_means}
+use Rattle.model.proofs.AdmissionLaws.{admitted_means}
 use Rattle.model.specs.declared.BoundReply.TheVariants.{Bounded}
-use Rattle.bound.specs.BoundCallLaws.{told_refused, told_figure, bound_call}
+use Rattle.bound.proofs.BoundCallLaws.{told_refused, told_figure, bound_call}
 use Rattle.bound.proofs.bound.Statement.{statement}
 use Rattle.bound.proofs.bound.Tie as tie
 

@@ -5,9 +5,9 @@ use native.Mathlib.Omega.{arith}
 use borrow.Author.Rules.{rules}
 use Rattle.numbers.specs.Counting.{at, nth, total}
 use Rattle.model.specs.Sheet.{places as K}
-use Rattle.model.specs.SheetLaws.{places_start, places_more}
-use Rattle.model.specs.MemoryLaws.{few_places}
-use Rattle.bound.specs.FigureLaws.{summand, sum_start, sum_more, figure_is}
+use Rattle.model.proofs.SheetLaws.{places_start, places_more}
+use Rattle.model.proofs.MemoryLaws.{few_places}
+use Rattle.bound.proofs.FigureLaws.{summand, sum_start, sum_more, figure_is}
 use Rattle.bound.proofs.figure.Statement.{statement}
 use Rattle.bound.proofs.figure.Tie as tie
 

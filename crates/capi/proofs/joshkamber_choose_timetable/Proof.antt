@@ -1,7 +1,7 @@
 -- `joshkamber_choose_timetable` meets its contract: it tells the library's reply. Assumes nothing.
 use borrow.Author.Rules.{rules}
 use Rattle.model.specs.Memory.{timetable_sheet}
-use Rattle.exported.specs.ExportedPlanningLaws.{exported_choice}
+use Rattle.exported.proofs.ExportedPlanningLaws.{exported_choice}
 use Rattle.capi.proofs.joshkamber_choose_timetable.Statement.{statement}
 use Rattle.capi.proofs.joshkamber_choose_timetable.Tie as tie
 

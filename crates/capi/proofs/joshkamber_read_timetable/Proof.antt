@@ -2,7 +2,7 @@
 use borrow.Author.Rules.{rules}
 use Rattle.model.specs.Memory.{timetable_sheet}
 use Rattle.exported.specs.Exported.{timetable_read}
-use Rattle.exported.specs.ExportedLaws.{exported_reading}
+use Rattle.exported.proofs.ExportedLaws.{exported_reading}
 use Rattle.capi.proofs.joshkamber_read_timetable.Statement.{statement}
 use Rattle.capi.proofs.joshkamber_read_timetable.Tie as tie
 

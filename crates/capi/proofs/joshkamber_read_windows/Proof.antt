@@ -2,7 +2,7 @@
 use borrow.Author.Rules.{rules}
 use Rattle.model.specs.Memory.{window_sheet}
 use Rattle.exported.specs.Exported.{windows_read}
-use Rattle.exported.specs.ExportedLaws.{exported_reading}
+use Rattle.exported.proofs.ExportedLaws.{exported_reading}
 use Rattle.capi.proofs.joshkamber_read_windows.Statement.{statement}
 use Rattle.capi.proofs.joshkamber_read_windows.Tie as tie
 

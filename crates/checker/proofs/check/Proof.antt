@@ -5,9 +5,9 @@ use mathlib.Core.Path.{sym, ◌∙◌}
 use mir.Facts.{to_z-of_z}
 use mir.Syntax.{w64}
 use Rattle.model.specs.Memory.{sheet_of}
-use Rattle.room.specs.CallLaws.{admitted}
-use Rattle.checker.specs.JudgingLaws.{told_refused, told_broken, told_kept, in_area}
-use Rattle.checker.specs.CheckingLaws.{checking_call}
+use Rattle.room.proofs.CallLaws.{admitted}
+use Rattle.checker.proofs.JudgingLaws.{told_refused, told_broken, told_kept, in_area}
+use Rattle.checker.proofs.CheckingLaws.{checking_call}
 use Rattle.checker.proofs.check.Statement.{statement}
 use Rattle.checker.proofs.check.Tie as tie
 

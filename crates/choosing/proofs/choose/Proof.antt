@@ -5,14 +5,14 @@ use Rattle.model.specs.Memory.{sheet_of}
 use Rattle.model.specs.Admission.{Admitted}
 use Rattle.rounds.specs.Outset.{Outset}
 use Rattle.rounds.specs.Areas.{PlanAreas, PlanRoom}
-use Rattle.rounds.specs.AreaLaws.{decides_plan_room}
+use Rattle.rounds.proofs.AreaLaws.{decides_plan_room}
 use Rattle.rounds.specs.SettingOut.{Sets}
-use Rattle.rounds.specs.AimLaws.{ordinary_sets}
+use Rattle.rounds.proofs.AimLaws.{ordinary_sets}
 use Rattle.rounds.specs.Answers.{choose_from}
 use Rattle.rounds.specs.Told.{areas}
-use Rattle.planner.specs.RunningLaws.{told_as}
-use Rattle.planner.specs.ChoosingLaws.{told_refused, told_rounds, choosing_call}
-use Rattle.room.specs.CallLaws.{admitted, has_room}
+use Rattle.planner.proofs.RunningLaws.{told_as}
+use Rattle.planner.proofs.ChoosingLaws.{told_refused, told_rounds, choosing_call}
+use Rattle.room.proofs.CallLaws.{admitted, has_room}
 use Rattle.choosing.proofs.choose.Statement.{statement}
 use Rattle.choosing.proofs.choose.Tie as tie
 

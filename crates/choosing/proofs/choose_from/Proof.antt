@@ -15,14 +15,14 @@ use Rattle.model.specs.Sheet.{Sheet}
 use Rattle.rounds.specs.Outset.{Outset}
 use Rattle.rounds.specs.RoundsBound.{rounds_bound}
 use Rattle.rounds.specs.Areas.{PlanAreas}
-use Rattle.rounds.specs.AimLaws.{Aim, set_out}
+use Rattle.rounds.proofs.AimLaws.{Aim, set_out}
 use Rattle.rounds.specs.Told.{areas}
 use Rattle.search.specs.Shows.{recorded_by}
 use Rattle.search.specs.Setting.{outset_of}
 use Rattle.search.specs.declared.Progress.{Progress}
 use Rattle.planner.specs.SoFar.{Running, recorded_now, Holds}
-use Rattle.planner.specs.ChoiceRoundLaws.{both, not_both, choice_begun, choice_taken, choice_kept, choice_ended}
-use Rattle.planner.specs.RunningLaws.{begun, more, can_go_on, next, next_better}
+use Rattle.planner.proofs.ChoiceRoundLaws.{both, not_both, choice_begun, choice_taken, choice_kept, choice_ended}
+use Rattle.planner.proofs.RunningLaws.{begun, more, can_go_on, next, next_better}
 use Rattle.choosing.proofs.choose_from.Statement.{statement}
 use Rattle.choosing.proofs.choose_from.Tie as tie
 

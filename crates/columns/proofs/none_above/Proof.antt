@@ -6,7 +6,7 @@ use native.Mathlib.Omega.{arith}
 use lib.Dec.{leb}
 use Rattle.numbers.specs.Counting.{nth, every}
 use Rattle.numbers.specs.CountingLaws.{every_start, every_more}
-use Rattle.columns.specs.ColumnLaws.{nth_at}
+use Rattle.columns.proofs.ColumnLaws.{nth_at}
 use Rattle.columns.proofs.none_above.Statement.{statement}
 use Rattle.columns.proofs.none_above.Tie as tie
 

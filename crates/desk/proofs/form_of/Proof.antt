@@ -2,7 +2,7 @@
 use borrow.Author.Rules.{rules}
 use borrow.Author.Tests.{eq-eqb, ne_eqb}
 use mathlib.Core.Bool.{true, false}
-use Rattle.desk.specs.PrintingLaws.{by_first_byte, empty_form}
+use Rattle.desk.proofs.PrintingLaws.{by_first_byte, empty_form}
 use Rattle.desk.proofs.form_of.Statement.{statement}
 use Rattle.desk.proofs.form_of.Tie as tie
 

@@ -3,8 +3,8 @@ use mathlib.Core.Path.{◌≡◌}
 use Prim.Native.Nat.{ℕ, ◌≤◌}
 use native.Mathlib.Omega.{arith}
 use lib.ListN.{length}
-use Rattle.desk.specs.FitLaws.{text_fits}
-use Rattle.desk.specs.PrintingLaws.{told_all, all_printed}
+use Rattle.desk.proofs.FitLaws.{text_fits}
+use Rattle.desk.proofs.PrintingLaws.{told_all, all_printed}
 use borrow.Author.Rules.{rules}
 use Rattle.desk.proofs.print_text.Statement.{statement}
 use Rattle.desk.proofs.print_text.Tie as tie

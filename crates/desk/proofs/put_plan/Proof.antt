@@ -4,7 +4,7 @@ use borrow.Author.Rules.{rules}
 use Rattle.model.specs.Memory.{sheet_of}
 use Rattle.rounds.specs.Areas.{PlanAreas}
 use Rattle.rounds.specs.Told.{areas}
-use Rattle.desk.specs.PrintingLaws.{ChosenLast, chosen_last, never_refused, plan_printed}
+use Rattle.desk.proofs.PrintingLaws.{ChosenLast, chosen_last, never_refused, plan_printed}
 use Rattle.desk.proofs.put_plan.Statement.{statement}
 use Rattle.desk.proofs.put_plan.Tie as tie
 

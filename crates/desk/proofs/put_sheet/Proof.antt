@@ -2,7 +2,7 @@
 use mathlib.Core.Path.{refl}
 use borrow.Author.Rules.{rules}
 use Rattle.model.specs.Memory.{sheet_of}
-use Rattle.desk.specs.PrintingLaws.{listing_refused, plan_put}
+use Rattle.desk.proofs.PrintingLaws.{listing_refused, plan_put}
 use Rattle.desk.proofs.put_sheet.Statement.{statement}
 use Rattle.desk.proofs.put_sheet.Tie as tie
 

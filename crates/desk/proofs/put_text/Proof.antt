@@ -1,6 +1,6 @@
 -- `put_text` meets its contract: the reading call's refusal is printed, or its sheet is planned and printed. Assumes nothing.
 use borrow.Author.Rules.{rules}
-use Rattle.desk.specs.PrintingLaws.{reading_refused, sheet_put}
+use Rattle.desk.proofs.PrintingLaws.{reading_refused, sheet_put}
 use Rattle.desk.proofs.put_text.Statement.{statement}
 use Rattle.desk.proofs.put_text.Tie as tie
 

@@ -1,6 +1,6 @@
 -- `cause_of` meets its contract: the model's calls give the two numbers. Assumes nothing.
 use borrow.Author.Rules.{rules}
-use Rattle.exported.specs.ExportedLaws.{cause_is}
+use Rattle.exported.proofs.ExportedLaws.{cause_is}
 use Rattle.exported.proofs.cause_of.Statement.{statement}
 use Rattle.exported.proofs.cause_of.Tie as tie
 

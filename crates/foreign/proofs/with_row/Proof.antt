@@ -6,7 +6,7 @@ use borrow.Author.Tests.{not-true, not-false}
 use borrow.Author.Rules.{rules}
 use Rattle.numbers.specs.DecidesLaws.{test_means, test_fails}
 use Rattle.model.specs.Limits.{Inside, train_counts, order_counts}
-use Rattle.foreign.specs.RowAddedLaws.{known, decides_known, row_taken, row_not_taken, met_before}
+use Rattle.foreign.proofs.RowAddedLaws.{known, decides_known, row_taken, row_not_taken, met_before}
 use Rattle.foreign.proofs.with_row.Statement.{statement}
 use Rattle.foreign.proofs.with_row.Tie as tie
 

@@ -10,7 +10,7 @@ use Rattle.model.specs.declared.Refusal.TheVariants.{NoSchedule, GoneWrong}
 use Rattle.model.specs.declared.Row.{Row}
 use Rattle.foreign.specs.Gathered.{gathered}
 use Rattle.numbers.specs.DecidesLaws.{not_yet, by_now}
-use Rattle.gone.specs.ReadyLaws.{none_set, set_wrong, set_few, set_granted}
+use Rattle.gone.proofs.ReadyLaws.{none_set, set_wrong, set_few, set_granted}
 use Rattle.gone.specs.GonePart.{gone_part}
 use Rattle.gone.specs.Ready.{SetOut}
 use Rattle.gone.proofs.set_out.Statement.{statement}

@@ -1,5 +1,5 @@
 -- `order_line` meets its contract: the passes of its fields join. Assumes nothing.
-use Rattle.writing.specs.WritingLaws.{pass_then}
+use Rattle.writing.proofs.WritingLaws.{pass_then}
 use Rattle.layout.specs.Lines.{order_line}
 use borrow.Author.Rules.{rules}
 use Rattle.layout.proofs.order_line.Statement.{statement}

@@ -4,9 +4,9 @@ use mathlib.Core.Path.{◌≡◌, refl}
 use native.Mathlib.Omega.{arith}
 use lib.ListN.{length}
 use Rattle.writing.specs.Writing.{state, pass}
-use Rattle.writing.specs.WritingLaws.{pass_more}
+use Rattle.writing.proofs.WritingLaws.{pass_more}
 use Rattle.layout.specs.Lines.{name_of, order_lines}
-use Rattle.layout.specs.LineLaws.{order_next}
+use Rattle.layout.proofs.LineLaws.{order_next}
 use borrow.Author.Rules.{rules}
 use Rattle.layout.proofs.order_lines.Statement.{statement}
 use Rattle.layout.proofs.order_lines.Tie as tie

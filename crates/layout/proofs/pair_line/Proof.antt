@@ -5,7 +5,7 @@ use Prim.Native.Nat.{ℕ}
 use lib.IntN.{ℤ}
 use mir.Facts.{to_z-of_z}
 use mir.Syntax.{w64}
-use Rattle.writing.specs.WritingLaws.{pass_then, pass_same}
+use Rattle.writing.proofs.WritingLaws.{pass_then, pass_same}
 use Rattle.writing.specs.Decimal.{signed}
 use Rattle.layout.specs.Lines.{pair_line}
 use Rattle.writing.specs.Decimal.{field}

@@ -9,9 +9,9 @@ use mir.Val.{to_z, of_z}
 use mir.Syntax.{w64}
 use Rattle.model.specs.Limits.{numbers_a_pair}
 use Rattle.writing.specs.Writing.{state, pass}
-use Rattle.writing.specs.WritingLaws.{pass_more, pass_same}
+use Rattle.writing.proofs.WritingLaws.{pass_more, pass_same}
 use Rattle.layout.specs.Lines.{pair_line, pair_lines}
-use Rattle.layout.specs.LineLaws.{pair_next}
+use Rattle.layout.proofs.LineLaws.{pair_next}
 use borrow.Author.Rules.{rules}
 use Rattle.layout.proofs.pair_lines.Statement.{statement}
 use Rattle.layout.proofs.pair_lines.Tie as tie

@@ -1,5 +1,5 @@
 -- `refusal_line` meets its contract: the passes of its fields join. Assumes nothing.
-use Rattle.writing.specs.WritingLaws.{pass_then}
+use Rattle.writing.proofs.WritingLaws.{pass_then}
 use Rattle.layout.specs.Lines.{refusal_line}
 use borrow.Author.Rules.{rules}
 use Rattle.layout.proofs.refusal_line.Statement.{statement}

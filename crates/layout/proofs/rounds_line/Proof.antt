@@ -1,5 +1,5 @@
 -- `rounds_line` meets its contract: the passes of its fields join. Assumes nothing.
-use Rattle.writing.specs.WritingLaws.{pass_then}
+use Rattle.writing.proofs.WritingLaws.{pass_then}
 use Rattle.layout.specs.Lines.{rounds_line}
 use borrow.Author.Rules.{rules}
 use Rattle.layout.proofs.rounds_line.Statement.{statement}

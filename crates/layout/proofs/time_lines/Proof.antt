@@ -5,9 +5,9 @@ use native.Mathlib.Omega.{arith}
 use lib.ListN.{length}
 use Rattle.model.specs.Limits.{numbers_a_train}
 use Rattle.writing.specs.Writing.{state, pass}
-use Rattle.writing.specs.WritingLaws.{pass_more}
+use Rattle.writing.proofs.WritingLaws.{pass_more}
 use Rattle.layout.specs.Lines.{time_lines}
-use Rattle.layout.specs.LineLaws.{time_next}
+use Rattle.layout.proofs.LineLaws.{time_next}
 use borrow.Author.Rules.{rules}
 use Rattle.layout.proofs.time_lines.Statement.{statement}
 use Rattle.layout.proofs.time_lines.Tie as tie

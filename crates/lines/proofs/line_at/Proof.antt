@@ -4,7 +4,7 @@ use Prim.Native.Nat.{◌+◌}
 use borrow.Author.Tests.{eq-eqb, ne_eqb}
 use borrow.Author.Rules.{rules}
 use Rattle.lines.specs.Lines.{line_at}
-use Rattle.lines.specs.LineLaws.{name_found}
+use Rattle.lines.proofs.LineLaws.{name_found}
 use Rattle.lines.proofs.line_at.Statement.{statement}
 use Rattle.lines.proofs.line_at.Tie as tie
 

@@ -3,13 +3,13 @@ use borrow.Author.Rules.{rules}
 use mathlib.Core.Path.{sym, ap, subst}
 use Rattle.model.specs.Memory.{sheet_of}
 use Rattle.model.specs.Admission.{Admitted}
-use Rattle.rounds.specs.AreaLaws.{decides_list_room}
+use Rattle.rounds.proofs.AreaLaws.{decides_list_room}
 use Rattle.rounds.specs.SettingOut.{Sets}
-use Rattle.rounds.specs.AimLaws.{ordinary_sets}
+use Rattle.rounds.proofs.AimLaws.{ordinary_sets}
 use Rattle.rounds.specs.Answers.{list_from}
-use Rattle.planner.specs.RunningLaws.{told_as}
-use Rattle.planner.specs.ListingLaws.{told_refused, told_rounds, listing_call}
-use Rattle.room.specs.CallLaws.{admitted, has_room}
+use Rattle.planner.proofs.RunningLaws.{told_as}
+use Rattle.planner.proofs.ListingLaws.{told_refused, told_rounds, listing_call}
+use Rattle.room.proofs.CallLaws.{admitted, has_room}
 use Rattle.listing.proofs.list.Statement.{statement}
 use Rattle.listing.proofs.list.Tie as tie
 

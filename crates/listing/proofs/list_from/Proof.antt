@@ -13,14 +13,14 @@ use Rattle.model.specs.Memory.{sheet_of}
 use Rattle.model.specs.Sheet.{Sheet}
 use Rattle.rounds.specs.Outset.{Outset}
 use Rattle.rounds.specs.RoundsBound.{rounds_bound}
-use Rattle.rounds.specs.BoundLaws.{bound_most}
-use Rattle.rounds.specs.AimLaws.{Aim, set_out}
+use Rattle.rounds.proofs.BoundLaws.{bound_most}
+use Rattle.rounds.proofs.AimLaws.{Aim, set_out}
 use Rattle.recording.specs.Recorded.{held_list, Lists}
 use Rattle.search.specs.Shows.{recorded_by}
 use Rattle.search.specs.Setting.{outset_of}
 use Rattle.search.specs.declared.Progress.{Progress}
 use Rattle.planner.specs.SoFar.{Running, recorded_now}
-use Rattle.planner.specs.RunningLaws.{begun, more, can_go_on, next, next_better, next_same, list_begun, list_better, list_same, list_ended}
+use Rattle.planner.proofs.RunningLaws.{begun, more, can_go_on, next, next_better, next_same, list_begun, list_better, list_same, list_ended}
 use Rattle.listing.proofs.list_from.Statement.{statement}
 use Rattle.listing.proofs.list_from.Tie as tie
 

@@ -13,9 +13,9 @@ use Rattle.riders.specs.Standing.{standing}
 use Rattle.loading.specs.Turns.{needed}
 use Rattle.riders.specs.Riders.{Counted}
 use Rattle.loading.specs.Stage.{Stage, Known, Unmoved}
-use Rattle.loading.specs.StageLaws.{stage_done}
-use Rattle.loading.specs.SkipLaws.{waits_found, nobody_waits, known_next, skip_settled}
-use Rattle.loading.specs.BeginLaws.{begins, known_first, stage_loads}
+use Rattle.loading.proofs.StageLaws.{stage_done}
+use Rattle.loading.proofs.SkipLaws.{waits_found, nobody_waits, known_next, skip_settled}
+use Rattle.loading.proofs.BeginLaws.{begins, known_first, stage_loads}
 use Rattle.loading.proofs.load.Statement.{statement}
 use Rattle.loading.proofs.load.Tie as tie
 

@@ -8,14 +8,14 @@ use Prim.Native.Nat.{ℕ, ◌-◌, ◌≤◌, ◌<◌}
 use native.Mathlib.Omega.{arith}
 use Rattle.numbers.specs.Counting.{at, nth, count}
 use Rattle.numbers.specs.DecidesLaws.{decides_lt, decided, test_means, test_fails, not_yet, by_now}
-use Rattle.rounds.specs.LoadingLaws.{on}
+use Rattle.rounds.specs.Riding.{on}
 use Rattle.rounds.specs.Settled.{SettledAt}
 use Rattle.riders.specs.Standing.{best}
 use Rattle.riders.specs.Riders.{Counted}
 use Rattle.loading.specs.Stage.{Stage, Unmoved}
-use Rattle.riders.specs.CountedLaws.{rides_one}
-use Rattle.loading.specs.StageLaws.{decides_wanted, wanted_full, not_wanted, unmoved_then, stage_done, rests_idle}
-use Rattle.loading.specs.TurnLaws.{Moved, turn_moves, turn_rests}
+use Rattle.riders.proofs.CountedLaws.{rides_one}
+use Rattle.loading.proofs.StageLaws.{decides_wanted, wanted_full, not_wanted, unmoved_then, stage_done, rests_idle}
+use Rattle.loading.proofs.TurnLaws.{Moved, turn_moves, turn_rests}
 use Rattle.loading.proofs.settle_train.Statement.{statement}
 use Rattle.loading.proofs.settle_train.Tie as tie
 

@@ -7,11 +7,11 @@ use native.Mathlib.Omega.{arith}
 use lib.ListN.{set}
 use lib.Seq.{get_or-set_other}
 use Rattle.numbers.specs.Counting.{at, count}
-use Rattle.rounds.specs.LoadingLaws.{on}
+use Rattle.rounds.specs.Riding.{on}
 use Rattle.riders.specs.Standing.{place, best, least}
 use Rattle.riders.specs.Riders.{Counted}
 use Rattle.loading.specs.Turns.{none_comes, comes_in, holds_out, takes_over}
-use Rattle.loading.specs.TurnLaws.{Comer, comer, Leaver, leaver}
+use Rattle.loading.proofs.TurnLaws.{Comer, comer, Leaver, leaver}
 use Rattle.loading.proofs.take_turn.Statement.{statement}
 use Rattle.loading.proofs.take_turn.Tie as tie
 

@@ -8,7 +8,7 @@ use lib.Dec.{leb, ltb}
 use mir.Val.{bool_byte}
 use Rattle.numbers.specs.Counting.{at, count}
 use Rattle.numbers.specs.CountingLaws.{count_start, count_le}
-use Rattle.lowering.specs.LoweringStepLaws.{count_byte}
+use Rattle.lowering.proofs.LoweringStepLaws.{count_byte}
 use Rattle.lowering.proofs.crowded_at.Statement.{statement}
 use Rattle.lowering.proofs.crowded_at.Tie as tie
 

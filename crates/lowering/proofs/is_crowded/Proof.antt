@@ -7,10 +7,10 @@ use mathlib.Core.Bool.{Bool, ◌||◌}
 use lib.ListN.{take}
 use Rattle.numbers.specs.Counting.{at, nth}
 use Rattle.model.specs.Sheet.{places as K}
-use Rattle.model.specs.SheetLaws.{places_start, places_more}
+use Rattle.model.proofs.SheetLaws.{places_start, places_more}
 use Rattle.rounds.specs.Lowering.{crowded_at}
 use Rattle.lowering.specs.SoFar.{crowded_below}
-use Rattle.lowering.specs.LoweringStepLaws.{crowded_test, crowded_none, crowded_more, crowded_all}
+use Rattle.lowering.proofs.LoweringStepLaws.{crowded_test, crowded_none, crowded_more, crowded_all}
 use Rattle.lowering.proofs.is_crowded.Statement.{statement}
 use Rattle.lowering.proofs.is_crowded.Tie as tie
 

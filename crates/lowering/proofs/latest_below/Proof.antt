@@ -12,7 +12,7 @@ use mir.Syntax.{w64}
 use Rattle.numbers.specs.Counting.{nth}
 use Rattle.model.specs.Lateness.{lateness}
 use Rattle.rounds.specs.Lowering.{latest_below}
-use Rattle.lowering.specs.LoweringStepLaws.{latest_found, latest_passed, latest_none}
+use Rattle.lowering.proofs.LoweringStepLaws.{latest_found, latest_passed, latest_none}
 use Rattle.lowering.proofs.latest_below.Statement.{statement}
 use Rattle.lowering.proofs.latest_below.Tie as tie
 

@@ -10,7 +10,7 @@ use mir.Val.{to_z}
 use mir.Syntax.{w64}
 use Rattle.numbers.specs.Counting.{at, nth}
 use Rattle.lowering.specs.SoFar.{LoweredFrom}
-use Rattle.lowering.specs.LoweringStepLaws.{lowered_none, lowered_more, lowered_all}
+use Rattle.lowering.proofs.LoweringStepLaws.{lowered_none, lowered_more, lowered_all}
 use Rattle.lowering.proofs.lower.Statement.{statement}
 use Rattle.lowering.proofs.lower.Tie as tie
 

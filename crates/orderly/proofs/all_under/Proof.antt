@@ -8,7 +8,7 @@ use Rattle.numbers.specs.Counting.{at}
 use Rattle.numbers.specs.DecidesLaws.{Decides, not_yet, by_now}
 use Rattle.riders.specs.Standing.{standing}
 use Rattle.orderly.specs.Bars.{Under, AllUnder}
-use Rattle.orderly.specs.BarLaws.{all_under_more, not_all_under}
+use Rattle.orderly.proofs.BarLaws.{all_under_more, not_all_under}
 use Rattle.orderly.proofs.all_under.Statement.{statement}
 use Rattle.orderly.proofs.all_under.Tie as tie
 

@@ -2,7 +2,7 @@
 use native.Mathlib.Omega.{arith}
 use Rattle.numbers.specs.DecidesLaws.{test_means, test_fails, not_yet, by_now}
 use Rattle.columns.specs.Columns.{UpTo}
-use Rattle.orderly.specs.BarLaws.{decides_orderly, not_up_to, no_room}
+use Rattle.orderly.proofs.BarLaws.{decides_orderly, not_up_to, no_room}
 use Rattle.orderly.proofs.are_orderly.Statement.{statement}
 use Rattle.orderly.proofs.are_orderly.Tie as tie
 

@@ -5,7 +5,7 @@ use Prim.Native.Nat.{◌≤◌}
 use native.Mathlib.Omega.{arith}
 use lib.ListN.{length, length-set}
 use Rattle.numbers.specs.Counting.{nth}
-use Rattle.orderly.specs.BarLaws.{BarredFrom, barred_more}
+use Rattle.orderly.proofs.BarLaws.{BarredFrom, barred_more}
 use Rattle.orderly.proofs.find_bars.Statement.{statement}
 use Rattle.orderly.proofs.find_bars.Tie as tie
 

@@ -5,7 +5,7 @@ use Prim.Native.Nat.{ℕ, ◌+◌, ◌<◌}
 use native.Mathlib.Omega.{arith}
 use lib.ListN.{length, replicate, length-set}
 use Rattle.orderly.specs.Bars.{Skips}
-use Rattle.orderly.specs.BarLaws.{skip_first, skips_more}
+use Rattle.orderly.proofs.BarLaws.{skip_first, skips_more}
 use Rattle.orderly.proofs.find_skips.Statement.{statement}
 use Rattle.orderly.proofs.find_skips.Tie as tie
 

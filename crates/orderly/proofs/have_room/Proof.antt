@@ -6,7 +6,7 @@ use native.Mathlib.Omega.{arith}
 use lib.Dec.{leb}
 use Rattle.numbers.specs.Counting.{at, every}
 use Rattle.numbers.specs.CountingLaws.{every_start, every_more}
-use Rattle.orderly.specs.BarLaws.{decides_room}
+use Rattle.orderly.proofs.BarLaws.{decides_room}
 use Rattle.orderly.proofs.have_room.Statement.{statement}
 use Rattle.orderly.proofs.have_room.Tie as tie
 

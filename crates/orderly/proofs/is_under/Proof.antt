@@ -4,7 +4,7 @@ use Prim.Native.Nat.{ℕ, ◌-◌, ◌<◌}
 use native.Mathlib.Omega.{arith}
 use Rattle.numbers.specs.Counting.{at}
 use Rattle.orderly.specs.Bars.{Skip}
-use Rattle.orderly.specs.BarLaws.{under_on}
+use Rattle.orderly.proofs.BarLaws.{under_on}
 use Rattle.orderly.proofs.is_under.Statement.{statement}
 use Rattle.orderly.proofs.is_under.Tie as tie
 

@@ -4,7 +4,7 @@ use Prim.Native.Nat.{◌-◌}
 use native.Mathlib.Omega.{arith}
 use Rattle.numbers.specs.Counting.{at}
 use Rattle.orderly.specs.Bars.{Skip}
-use Rattle.orderly.specs.BarLaws.{skip_on, skip_first}
+use Rattle.orderly.proofs.BarLaws.{skip_on, skip_first}
 use Rattle.orderly.proofs.next_lower.Statement.{statement}
 use Rattle.orderly.proofs.next_lower.Tie as tie
 

@@ -5,7 +5,7 @@ use native.Mathlib.Omega.{arith}
 use borrow.Author.Rules.{rules}
 use Rattle.numbers.specs.Counting.{nth}
 use Rattle.model.specs.Sheet.{places}
-use Rattle.model.specs.SheetLaws.{places_start, places_more}
+use Rattle.model.proofs.SheetLaws.{places_start, places_more}
 use Rattle.places.proofs.places_of.Statement.{statement}
 use Rattle.places.proofs.places_of.Tie as tie
 

@@ -1,5 +1,5 @@
 -- `plan_lines` meets its contract: the passes of its lines join. Assumes nothing.
-use Rattle.writing.specs.WritingLaws.{pass_then}
+use Rattle.writing.proofs.WritingLaws.{pass_then}
 use Rattle.printer.specs.PlanBytes.{plan_bytes}
 use borrow.Author.Rules.{rules}
 use Rattle.printer.proofs.plan_lines.Statement.{statement}

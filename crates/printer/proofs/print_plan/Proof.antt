@@ -1,7 +1,7 @@
 -- `print_plan` meets its contract: one pass counts the bytes, and a second one writes them where they fit. Assumes nothing.
 use mathlib.Core.List.{List}
 use Prim.Native.Nat.{ℕ}
-use Rattle.writing.specs.WritingLaws.{prints_short, prints_bytes}
+use Rattle.writing.proofs.WritingLaws.{prints_short, prints_bytes}
 use Rattle.printer.specs.PlanBytes.{plan_bytes}
 use borrow.Author.Rules.{rules}
 use Rattle.printer.proofs.print_plan.Statement.{statement}

@@ -1,5 +1,5 @@
 -- `print_refusal` meets its contract: one pass counts the bytes, and a second one writes them where they fit. Assumes nothing.
-use Rattle.writing.specs.WritingLaws.{prints_short, prints_bytes}
+use Rattle.writing.proofs.WritingLaws.{prints_short, prints_bytes}
 use Rattle.layout.specs.Lines.{refusal_line}
 use borrow.Author.Rules.{rules}
 use Rattle.printer.proofs.print_refusal.Statement.{statement}

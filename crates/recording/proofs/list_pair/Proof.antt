@@ -12,7 +12,7 @@ use lib.ListN.{length, length-set}
 use Rattle.numbers.specs.DecidesLaws.{Decides, decides_and, decides_lt, decides_eq, test_means, test_fails}
 use Rattle.model.specs.Limits.{most_pairs}
 use Rattle.recording.specs.Recorded.{place}
-use Rattle.recording.specs.RecordingStepLaws.{place_same, place_behind, place_most, lists_more}
+use Rattle.recording.proofs.RecordingStepLaws.{place_same, place_behind, place_most, lists_more}
 use Rattle.recording.proofs.list_pair.Statement.{statement}
 use Rattle.recording.proofs.list_pair.Tie as tie
 

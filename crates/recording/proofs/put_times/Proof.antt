@@ -7,7 +7,7 @@ use native.Mathlib.Omega.{arith}
 use lib.ListN.{length, length-set, take}
 use Rattle.numbers.specs.Over.{over}
 use Rattle.rounds.specs.Areas.{time_numbers}
-use Rattle.recording.specs.RecordingStepLaws.{times_last}
+use Rattle.recording.proofs.RecordingStepLaws.{times_last}
 use Rattle.recording.proofs.put_times.Statement.{statement}
 use Rattle.recording.proofs.put_times.Tie as tie
 

@@ -5,7 +5,7 @@ use Prim.Native.Nat.{◌≤◌}
 use native.Mathlib.Omega.{arith}
 use lib.ListN.{length, length-set, take}
 use Rattle.numbers.specs.Over.{over}
-use Rattle.recording.specs.RecordingStepLaws.{copy_last}
+use Rattle.recording.proofs.RecordingStepLaws.{copy_last}
 use Rattle.recording.proofs.put_trains.Statement.{statement}
 use Rattle.recording.proofs.put_trains.Tie as tie
 

@@ -3,11 +3,11 @@ use borrow.Author.Rules.{rules}
 use Rattle.model.specs.Memory.{sheet_of}
 use Rattle.model.specs.Admission.{Admitted}
 use Rattle.rounds.specs.Areas.{PlanAreas, PlanRoom}
-use Rattle.rounds.specs.AreaLaws.{decides_plan_room}
+use Rattle.rounds.proofs.AreaLaws.{decides_plan_room}
 use Rattle.rounds.specs.Told.{areas}
-use Rattle.room.specs.CallLaws.{admitted, has_room}
+use Rattle.room.proofs.CallLaws.{admitted, has_room}
 use Rattle.gone.specs.GonePart.{gone_part}
-use Rattle.replan.specs.ReplanningLaws.{choice_refused, choice_gone, choice_rounds}
+use Rattle.replan.proofs.ReplanningLaws.{choice_refused, choice_gone, choice_rounds}
 use Rattle.replan.proofs.rechoose.Statement.{statement}
 use Rattle.replan.proofs.rechoose.Tie as tie
 

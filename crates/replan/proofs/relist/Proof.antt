@@ -3,10 +3,10 @@ use borrow.Author.Rules.{rules}
 use Rattle.model.specs.Memory.{sheet_of}
 use Rattle.model.specs.Admission.{Admitted}
 use Rattle.rounds.specs.Areas.{ListRoom}
-use Rattle.rounds.specs.AreaLaws.{decides_list_room}
-use Rattle.room.specs.CallLaws.{admitted, has_room}
+use Rattle.rounds.proofs.AreaLaws.{decides_list_room}
+use Rattle.room.proofs.CallLaws.{admitted, has_room}
 use Rattle.gone.specs.GonePart.{gone_part}
-use Rattle.replan.specs.ReplanningLaws.{list_refused, list_gone, list_rounds}
+use Rattle.replan.proofs.ReplanningLaws.{list_refused, list_gone, list_rounds}
 use Rattle.replan.proofs.relist.Statement.{statement}
 use Rattle.replan.proofs.relist.Tie as tie
 

@@ -1,6 +1,6 @@
 -- `print` is safe: the bytes that are printed lie in the page. Assumes nothing.
 use native.Mathlib.Omega.{arith}
-use Rattle.desk.specs.PrintingLaws.{text_within}
+use Rattle.desk.proofs.PrintingLaws.{text_within}
 use borrow.Author.Rules.{rules}
 use Rattle.report.proofs.print.Statement.{statement}
 use Rattle.report.proofs.print.Tie as tie

@@ -2,7 +2,7 @@
 use borrow.Author.Rules.{rules}
 use Rattle.model.specs.Memory.{sheet_of}
 use Rattle.model.specs.Admission.{Admitted}
-use Rattle.room.specs.CallLaws.{tested_first, tested_room, granted_so}
+use Rattle.room.proofs.CallLaws.{tested_first, tested_room, granted_so}
 use Rattle.room.proofs.for_search.Statement.{statement}
 use Rattle.room.proofs.for_search.Tie as tie
 

@@ -1,7 +1,7 @@
 -- `room::holds_pairs` meets its contract: no figure is so great that its double wraps. Assumes nothing.
 use native.Mathlib.Omega.{arith}
 use Rattle.model.specs.Memory.{sheet_of}
-use Rattle.rounds.specs.BoundLaws.{bound_most}
+use Rattle.rounds.proofs.BoundLaws.{bound_most}
 use Rattle.room.proofs.holds_pairs.Statement.{statement}
 use Rattle.room.proofs.holds_pairs.Tie as tie
 

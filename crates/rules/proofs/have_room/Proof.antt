@@ -6,7 +6,7 @@ use native.Mathlib.Omega.{arith}
 use lib.Dec.{leb, eqb}
 use Rattle.numbers.specs.Counting.{at, nth, count, every}
 use Rattle.numbers.specs.CountingLaws.{every_start}
-use Rattle.rules.specs.RulesLaws.{room_more}
+use Rattle.rules.proofs.RulesLaws.{room_more}
 use Rattle.rules.proofs.have_room.Statement.{statement}
 use Rattle.rules.proofs.have_room.Tie as tie
 

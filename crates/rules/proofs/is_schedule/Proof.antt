@@ -4,7 +4,7 @@ use mathlib.Core.Path.{◌≡◌, sym}
 use native.Mathlib.Omega.{arith}
 use lib.ListN.{length}
 use Rattle.model.specs.Memory.{sheet_of}
-use Rattle.rules.specs.RulesLaws.{all_ride, tests_schedule}
+use Rattle.rules.proofs.RulesLaws.{all_ride, tests_schedule}
 use Rattle.rules.proofs.is_schedule.Statement.{statement}
 use Rattle.rules.proofs.is_schedule.Tie as tie
 

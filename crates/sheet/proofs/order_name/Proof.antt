@@ -1,7 +1,7 @@
 -- `order_name` meets its contract: the names of a text lie in it. Assumes nothing.
 use mathlib.Core.Path.{ap, ◌∙◌, subst}
 use Rattle.fields.specs.NamePlaces.{IsPart, name_at, within}
-use Rattle.sheet.specs.NameLaws.{name_there}
+use Rattle.sheet.proofs.NameLaws.{name_there}
 use Rattle.sheet.specs.declared.Reading.{Reading}
 use borrow.Author.Rules.{rules}
 use Rattle.sheet.proofs.order_name.Statement.{statement}

@@ -1,6 +1,6 @@
 -- `read` meets its contract: what the lines say, beside the sheet that they make. Assumes nothing.
 use Rattle.sheet.specs.Sheets.{reading}
-use Rattle.sheet.specs.ReadingCallLaws.{reads}
+use Rattle.sheet.proofs.ReadingCallLaws.{reads}
 use borrow.Author.Rules.{rules}
 use Rattle.sheet.proofs.read.Statement.{statement}
 use Rattle.sheet.proofs.read.Tie as tie

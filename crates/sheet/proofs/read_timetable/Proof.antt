@@ -1,6 +1,6 @@
 -- `read_timetable` meets its contract: it hands over the reading of its form. Assumes nothing.
 use Rattle.sheet.specs.Sheets.{timetable_reading}
-use Rattle.sheet.specs.ReadingCallLaws.{reads_timetable}
+use Rattle.sheet.proofs.ReadingCallLaws.{reads_timetable}
 use borrow.Author.Rules.{rules}
 use Rattle.sheet.proofs.read_timetable.Statement.{statement}
 use Rattle.sheet.proofs.read_timetable.Tie as tie

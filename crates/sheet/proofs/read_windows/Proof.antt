@@ -1,6 +1,6 @@
 -- `read_windows` meets its contract: it hands over the reading of its form. Assumes nothing.
 use Rattle.sheet.specs.Sheets.{window_reading}
-use Rattle.sheet.specs.ReadingCallLaws.{reads_windows}
+use Rattle.sheet.proofs.ReadingCallLaws.{reads_windows}
 use borrow.Author.Rules.{rules}
 use Rattle.sheet.proofs.read_windows.Statement.{statement}
 use Rattle.sheet.proofs.read_windows.Tie as tie

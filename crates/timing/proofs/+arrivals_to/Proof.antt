@@ -8,8 +8,8 @@ use Prim.Native.Nat.{ℕ, ◌<◌, ◌≤◌, ◌+◌, ◌-◌}
 use native.Mathlib.Omega.{arith}
 use native.Mathlib.Nat.{mul-le-mul}
 use Rattle.numbers.specs.Counting.{nth}
-use Rattle.model.specs.ArrivalLaws.{arrival_bound}
-use Rattle.timing.specs.TimingStepLaws.{ahead_is, arrivals_first, arrivals_more, arrives_behind}
+use Rattle.model.proofs.ArrivalLaws.{arrival_bound}
+use Rattle.timing.proofs.TimingStepLaws.{ahead_is, arrivals_first, arrivals_more, arrives_behind}
 use Rattle.timing.proofs.arrivals_to.Reads as arrivals-to
 use Rattle.timing.proofs.arrivals_to.Kinds as arrivals-to-kinds
 use Rattle.timing.proofs.+arrivals_to.Lts-arrivals_to as lts

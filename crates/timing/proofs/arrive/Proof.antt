@@ -4,7 +4,7 @@ use mathlib.Core.Path.{◌≡◌, sym}
 use native.Mathlib.Omega.{arith}
 use lib.ListN.{length}
 use Rattle.model.specs.declared.Form.TheVariants.{Windows, Timetable}
-use Rattle.timing.specs.TimingStepLaws.{row_nth, arrived_by_form}
+use Rattle.timing.proofs.TimingStepLaws.{row_nth, arrived_by_form}
 use Rattle.timing.proofs.arrive.Statement.{statement}
 use Rattle.timing.proofs.arrive.Tie as tie
 

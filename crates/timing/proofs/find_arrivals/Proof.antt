@@ -1,8 +1,8 @@
 -- `timing::find_arrivals` meets its contract: an admitted sheet's gap and running times are in range. Assumes nothing.
 use Prim.Native.Nat.{suc}
 use native.Mathlib.Omega.{arith}
-use Rattle.model.specs.MemoryLaws.{windows_in_range}
-use Rattle.columns.specs.ColumnLaws.{nth_at}
+use Rattle.model.proofs.MemoryLaws.{windows_in_range}
+use Rattle.columns.proofs.ColumnLaws.{nth_at}
 use Rattle.timing.proofs.find_arrivals.Statement.{statement}
 use Rattle.timing.proofs.find_arrivals.Tie as tie
 

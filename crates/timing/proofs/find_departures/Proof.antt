@@ -9,14 +9,14 @@ use native.Mathlib.Numerals.{add-one}
 use lib.ListN.{length, take, replicate, length-set}
 use Rattle.numbers.specs.Counting.{at, nth}
 use Rattle.model.specs.Memory.{windows_of}
-use Rattle.model.specs.MemoryLaws.{windows_few, windows_in_range}
+use Rattle.model.proofs.MemoryLaws.{windows_few, windows_in_range}
 use Rattle.model.specs.Admission.{WindowsInRange}
 use Rattle.rounds.specs.Timing.{first_window, earliest, departed, departures}
-use Rattle.columns.specs.ColumnLaws.{nth_at}
+use Rattle.columns.proofs.ColumnLaws.{nth_at}
 use Rattle.timing.specs.Timed.{never, departed_in, WindowsOver, HaveLeft}
-use Rattle.timing.specs.TimingStepLaws.{over_more, no_window, window_first, earliest_first, earliest_behind}
-use Rattle.timing.specs.TimingStepLaws.{departures_first, departures_stop, departures_next}
-use Rattle.timing.specs.TimingStepLaws.{left_none, left_more, left_bound, all_left, some_never, both_to_come, one_at_end}
+use Rattle.timing.proofs.TimingStepLaws.{over_more, no_window, window_first, earliest_first, earliest_behind}
+use Rattle.timing.proofs.TimingStepLaws.{departures_first, departures_stop, departures_next}
+use Rattle.timing.proofs.TimingStepLaws.{left_none, left_more, left_bound, all_left, some_never, both_to_come, one_at_end}
 use Rattle.timing.specs.declared.Leaving.{Leaving}
 use Rattle.timing.proofs.find_departures.Statement.{statement}
 use Rattle.timing.proofs.find_departures.Tie as tie

@@ -7,7 +7,7 @@ use lib.ListN.{set, take}
 use lib.Seq.{get_or-take}
 use Rattle.numbers.specs.Counting.{at, nth, row}
 use Rattle.rounds.specs.Timing.{awaited}
-use Rattle.timing.specs.TimingStepLaws.{releases_none, releases_more}
+use Rattle.timing.proofs.TimingStepLaws.{releases_none, releases_more}
 use Rattle.timing.proofs.releases.Statement.{statement}
 use Rattle.timing.proofs.releases.Tie as tie
 

@@ -8,7 +8,7 @@ use Rattle.numbers.specs.Counting.{nth}
 use Rattle.model.specs.Memory.{windows_of}
 use Rattle.model.specs.declared.Form.TheVariants.{Windows, Timetable}
 use Rattle.timing.specs.Timed.{never}
-use Rattle.timing.specs.TimingStepLaws.{timed_by_form, windows_timed, fixed_timed, timetable_timed}
+use Rattle.timing.proofs.TimingStepLaws.{timed_by_form, windows_timed, fixed_timed, timetable_timed}
 use Rattle.timing.proofs.time_trains.Statement.{statement}
 use Rattle.timing.proofs.time_trains.Tie as tie
 

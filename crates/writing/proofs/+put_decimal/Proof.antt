@@ -1,6 +1,6 @@
 -- `put_decimal` meets its contract: by recursion on the number without its last digit, which falls. Assumes nothing.
-use Rattle.writing.specs.WritingLaws.{pass_more}
-use Rattle.writing.specs.DecimalLaws.{decimal_one, decimal_more}
+use Rattle.writing.proofs.WritingLaws.{pass_more}
+use Rattle.writing.proofs.DecimalLaws.{decimal_one, decimal_more}
 use borrow.Author.Rules.{rules}
 use Prim.Native.Nat.{ℕ, ◌<◌}
 use borrow.Fn.Kinds.{In}

@@ -7,7 +7,7 @@ use native.Mathlib.Numerals.{add-one}
 use lib.ListN.{length, take, get_or}
 use lib.Seq.{take-suc, take_all}
 use Rattle.writing.specs.Writing.{state, pass}
-use Rattle.writing.specs.WritingLaws.{pass_none, pass_then, pass_more}
+use Rattle.writing.proofs.WritingLaws.{pass_none, pass_then, pass_more}
 use borrow.Author.Rules.{rules}
 use Rattle.writing.proofs.name_field.Statement.{statement}
 use Rattle.writing.proofs.name_field.Tie as tie

@@ -1,5 +1,5 @@
 -- `number_field` meets its contract: the two passes join. Assumes nothing.
-use Rattle.writing.specs.WritingLaws.{pass_then}
+use Rattle.writing.proofs.WritingLaws.{pass_then}
 use borrow.Author.Rules.{rules}
 use Rattle.writing.proofs.number_field.Statement.{statement}
 use Rattle.writing.proofs.number_field.Tie as tie

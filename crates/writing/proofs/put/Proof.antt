@@ -1,7 +1,7 @@
 -- `put` meets its contract: each return is one case of a byte in the pass. Assumes nothing.
 use mathlib.Core.Path.{sym}
 use native.Mathlib.Omega.{arith}
-use Rattle.writing.specs.WritingLaws.{put_past, put_short, put_written, put_counted}
+use Rattle.writing.proofs.WritingLaws.{put_past, put_short, put_written, put_counted}
 use borrow.Author.Rules.{rules}
 use Rattle.writing.proofs.put.Statement.{statement}
 use Rattle.writing.proofs.put.Tie as tie

@@ -5,10 +5,10 @@ use mathlib.Core.List.{[], ◌∷◌}
 use lib.IntN.{nat_abs}
 use mir.Facts.{to_z-of_z}
 use mir.Syntax.{w64}
-use Rattle.writing.specs.WritingLaws.{pass_then, pass_same}
+use Rattle.writing.proofs.WritingLaws.{pass_then, pass_same}
 use Rattle.writing.specs.Decimal.{field}
 use Rattle.writing.specs.Decimal.{decimal}
-use Rattle.writing.specs.DecimalLaws.{signed_negative, signed_other}
+use Rattle.writing.proofs.DecimalLaws.{signed_negative, signed_other}
 use borrow.Author.Rules.{rules}
 use Rattle.writing.proofs.signed_field.Statement.{statement}
 use Rattle.writing.proofs.signed_field.Tie as tie

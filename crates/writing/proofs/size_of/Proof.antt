@@ -3,7 +3,7 @@ use mathlib.Core.Path.{sym}
 use native.Mathlib.Omega.{arith}
 use mir.Facts.{to_z-of_z, Fits-nat_abs}
 use mir.Syntax.{w64}
-use Rattle.writing.specs.SizeLaws.{sized, not_negative}
+use Rattle.writing.proofs.SizeLaws.{sized, not_negative}
 use Rattle.writing.proofs.size_of.Statement.{statement}
 use Rattle.writing.proofs.size_of.Tie as tie
 

@@ -1,6 +1,6 @@
 -- `tests::in_range` meets its contract: the calls give its parts. Assumes nothing.
 use borrow.Author.Rules.{rules}
-use Rattle.admission.specs.ColumnTestLaws.{inside_numbered}
+use Rattle.admission.proofs.ColumnTestLaws.{inside_numbered}
 use Rattle.model.specs.Admission.{in_range}
 use Rattle.model.specs.Limits.{capacity_range}
 use Rattle.admission.proofs.tests.in_range.Statement.{statement}

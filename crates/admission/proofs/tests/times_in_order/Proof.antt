@@ -1,6 +1,6 @@
 -- `tests::times_in_order` meets its contract: the calls give the tests of its columns. Assumes nothing.
 use borrow.Author.Rules.{rules}
-use Rattle.admission.specs.ColumnTestLaws.{times_order}
+use Rattle.admission.proofs.ColumnTestLaws.{times_order}
 use Rattle.admission.proofs.tests.times_in_order.Statement.{statement}
 use Rattle.admission.proofs.tests.times_in_order.Tie as tie
 

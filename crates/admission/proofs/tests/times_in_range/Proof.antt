@@ -1,6 +1,6 @@
 -- `tests::times_in_range` meets its contract: the calls give the tests of its columns. Assumes nothing.
 use borrow.Author.Rules.{rules}
-use Rattle.admission.specs.ColumnTestLaws.{times_range}
+use Rattle.admission.proofs.ColumnTestLaws.{times_range}
 use Rattle.admission.proofs.tests.times_in_range.Statement.{statement}
 use Rattle.admission.proofs.tests.times_in_range.Tie as tie
 

@@ -1,6 +1,6 @@
 -- `tests::windows_in_order` meets its contract: the calls give the tests of its columns. Assumes nothing.
 use borrow.Author.Rules.{rules}
-use Rattle.admission.specs.ColumnTestLaws.{windows_order}
+use Rattle.admission.proofs.ColumnTestLaws.{windows_order}
 use Rattle.admission.proofs.tests.windows_in_order.Statement.{statement}
 use Rattle.admission.proofs.tests.windows_in_order.Tie as tie
 

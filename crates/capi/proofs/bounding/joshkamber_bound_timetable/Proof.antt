@@ -1,7 +1,7 @@
 -- `joshkamber_bound_timetable` meets its contract: it tells the library's reply. Assumes nothing.
 use borrow.Author.Rules.{rules}
 use Rattle.model.specs.Memory.{timetable_sheet}
-use Rattle.exported.specs.ExportedBoundLaws.{exported_bound}
+use Rattle.exported.proofs.ExportedBoundLaws.{exported_bound}
 use Rattle.capi.proofs.bounding.joshkamber_bound_timetable.Statement.{statement}
 use Rattle.capi.proofs.bounding.joshkamber_bound_timetable.Tie as tie
 

@@ -1,7 +1,7 @@
 -- `joshkamber_bound_windows` meets its contract: it tells the library's reply. Assumes nothing.
 use borrow.Author.Rules.{rules}
 use Rattle.model.specs.Memory.{window_sheet}
-use Rattle.exported.specs.ExportedBoundLaws.{exported_bound}
+use Rattle.exported.proofs.ExportedBoundLaws.{exported_bound}
 use Rattle.capi.proofs.bounding.joshkamber_bound_windows.Statement.{statement}
 use Rattle.capi.proofs.bounding.joshkamber_bound_windows.Tie as tie
 

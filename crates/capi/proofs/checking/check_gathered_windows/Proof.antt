@@ -1,7 +1,7 @@
 -- `capi::checking::check_gathered_windows` meets its contract: it tells the library's reply, whatever rows were gathered. Assumes nothing.
 use borrow.Author.Rules.{rules}
 use Rattle.model.specs.Memory.{window_sheet}
-use Rattle.checked.specs.ExportedCheckingLaws.{exported_check}
+use Rattle.checked.proofs.ExportedCheckingLaws.{exported_check}
 use Rattle.capi.proofs.checking.check_gathered_windows.Statement.{statement}
 use Rattle.capi.proofs.checking.check_gathered_windows.Tie as tie
 

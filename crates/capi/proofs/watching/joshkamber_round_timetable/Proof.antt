@@ -1,7 +1,7 @@
 -- `joshkamber_round_timetable` meets its contract: it tells what the library gives. Assumes nothing.
 use borrow.Author.Rules.{rules}
 use Rattle.model.specs.Memory.{timetable_sheet}
-use Rattle.watched.specs.ExportedWatchingLaws.{exported_round}
+use Rattle.watched.proofs.ExportedWatchingLaws.{exported_round}
 use Rattle.capi.proofs.watching.joshkamber_round_timetable.Statement.{statement}
 use Rattle.capi.proofs.watching.joshkamber_round_timetable.Tie as tie
 

@@ -1,7 +1,7 @@
 -- `joshkamber_round_windows` meets its contract: it tells what the library gives. Assumes nothing.
 use borrow.Author.Rules.{rules}
 use Rattle.model.specs.Memory.{window_sheet}
-use Rattle.watched.specs.ExportedWatchingLaws.{exported_round}
+use Rattle.watched.proofs.ExportedWatchingLaws.{exported_round}
 use Rattle.capi.proofs.watching.joshkamber_round_windows.Statement.{statement}
 use Rattle.capi.proofs.watching.joshkamber_round_windows.Tie as tie
 

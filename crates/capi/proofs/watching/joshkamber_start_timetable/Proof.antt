@@ -1,7 +1,7 @@
 -- `joshkamber_start_timetable` meets its contract: it tells what the library gives. Assumes nothing.
 use borrow.Author.Rules.{rules}
 use Rattle.model.specs.Memory.{timetable_sheet}
-use Rattle.watched.specs.ExportedWatchingLaws.{exported_start}
+use Rattle.watched.proofs.ExportedWatchingLaws.{exported_start}
 use Rattle.capi.proofs.watching.joshkamber_start_timetable.Statement.{statement}
 use Rattle.capi.proofs.watching.joshkamber_start_timetable.Tie as tie
 

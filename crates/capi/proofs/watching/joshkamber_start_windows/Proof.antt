@@ -1,7 +1,7 @@
 -- `joshkamber_start_windows` meets its contract: it tells what the library gives. Assumes nothing.
 use borrow.Author.Rules.{rules}
 use Rattle.model.specs.Memory.{window_sheet}
-use Rattle.watched.specs.ExportedWatchingLaws.{exported_start}
+use Rattle.watched.proofs.ExportedWatchingLaws.{exported_start}
 use Rattle.capi.proofs.watching.joshkamber_start_windows.Statement.{statement}
 use Rattle.capi.proofs.watching.joshkamber_start_windows.Tie as tie
 

@@ -8,10 +8,10 @@ use mir.Syntax.{w64}
 use Rattle.numbers.specs.DecidesLaws.{test_means}
 use Rattle.model.specs.Memory.{sheet_of}
 use Rattle.model.specs.Limits.{◌–◌}
-use Rattle.model.specs.ScheduleTestLaws.{decides_schedule}
-use Rattle.foreign.specs.GatheredLaws.{train_inside}
+use Rattle.model.proofs.ScheduleTestLaws.{decides_schedule}
+use Rattle.foreign.proofs.GatheredLaws.{train_inside}
 use Rattle.rules.specs.Rules.{pair_told}
-use Rattle.checker.specs.JudgingLaws.{counted, column_passed, wrong_rows, rule_broken, all_kept}
+use Rattle.checker.proofs.JudgingLaws.{counted, column_passed, wrong_rows, rule_broken, all_kept}
 use Rattle.checker.proofs.judging.judge.Statement.{statement}
 use Rattle.checker.proofs.judging.judge.Tie as tie
 

@@ -10,7 +10,7 @@ use mir.Val.{to_z}
 use mir.Syntax.{w64}
 use Rattle.model.specs.Limits.{numbers_a_pair}
 use Rattle.checker.specs.Judging.{listed_in}
-use Rattle.checker.specs.ListedLaws.{listed_start, listed_more}
+use Rattle.checker.proofs.ListedLaws.{listed_start, listed_more}
 use Rattle.checker.proofs.listed.is_listed.Statement.{statement}
 use Rattle.checker.proofs.listed.is_listed.Tie as tie
 

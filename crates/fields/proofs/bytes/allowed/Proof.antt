@@ -1,7 +1,7 @@
 -- `allowed` meets its contract: each return has the tests that led to it. Assumes nothing.
 use mathlib.Core.Path.{sym, ◌∙◌}
 use borrow.Author.Tests.{eq-eqb, ne_eqb}
-use Rattle.fields.specs.FieldLaws.{ten_digits}
+use Rattle.fields.proofs.FieldLaws.{ten_digits}
 use borrow.Author.Rules.{rules}
 use Rattle.fields.proofs.bytes.allowed.Statement.{statement}
 use Rattle.fields.proofs.bytes.allowed.Tie as tie

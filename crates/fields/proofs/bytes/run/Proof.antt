@@ -4,7 +4,7 @@ use Prim.Native.Nat.{◌+◌, ◌-◌, ◌≤◌}
 use native.Mathlib.Omega.{arith}
 use lib.ListN.{length, drop}
 use Rattle.fields.specs.Fields.{run_of}
-use Rattle.fields.specs.FieldLaws.{run_next, run_stop, run_past}
+use Rattle.fields.proofs.FieldLaws.{run_next, run_stop, run_past}
 use borrow.Author.Rules.{rules}
 use Rattle.fields.proofs.bytes.run.Statement.{statement}
 use Rattle.fields.proofs.bytes.run.Tie as tie

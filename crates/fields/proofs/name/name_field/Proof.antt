@@ -6,7 +6,7 @@ use borrow.Author.Tests.{le-leb, lt-leb, eq-eqb, ne_eqb}
 use lib.ListN.{drop}
 use Rattle.fields.specs.Fields.{run_of}
 use Rattle.fields.specs.Names.{name_field}
-use Rattle.fields.specs.FieldLaws.{inside_text}
+use Rattle.fields.proofs.FieldLaws.{inside_text}
 use Rattle.fields.specs.declared.Alphabet.TheVariants.{NameBytes}
 use borrow.Author.Rules.{rules}
 use Rattle.fields.proofs.name.name_field.Statement.{statement}

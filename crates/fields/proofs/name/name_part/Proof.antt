@@ -6,7 +6,7 @@ use denote.Ref.{Bor}
 use mathlib.Core.List.{List}
 use lib.ListN.{length, take, drop}
 use Rattle.fields.specs.NamePlaces.{Span, IsPart, no_bytes, name_at, within}
-use Rattle.fields.specs.NameLaws.{within_lies, within_not}
+use Rattle.fields.proofs.NameLaws.{within_lies, within_not}
 use Rattle.fields.specs.declared.NamePlace.{NamePlace}
 use borrow.Author.Rules.{rules}
 use Rattle.fields.proofs.name.name_part.Statement.{statement}

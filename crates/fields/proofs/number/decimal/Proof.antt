@@ -5,7 +5,7 @@ use Prim.Native.Nat.{◌-◌, ◌≤◌}
 use native.Mathlib.Omega.{arith}
 use native.Mathlib.Numerals.{add-one}
 use Rattle.fields.specs.Numbers.{decimal_of}
-use Rattle.fields.specs.FieldLaws.{digit_at, decimal_fits, run_inside}
+use Rattle.fields.proofs.FieldLaws.{digit_at, decimal_fits, run_inside}
 use borrow.Author.Rules.{rules}
 use Rattle.fields.proofs.number.decimal.Statement.{statement}
 use Rattle.fields.proofs.number.decimal.Tie as tie

@@ -3,7 +3,7 @@ use mathlib.Core.Path.{sym, ◌∙◌}
 use native.Mathlib.Omega.{arith}
 use borrow.Author.Tests.{le-leb, lt-leb, eq-eqb, ne_eqb}
 use Rattle.fields.specs.Numbers.{number_at}
-use Rattle.fields.specs.FieldLaws.{run_inside}
+use Rattle.fields.proofs.FieldLaws.{run_inside}
 use Rattle.fields.specs.declared.Alphabet.TheVariants.{Digits}
 use borrow.Author.Rules.{rules}
 use Rattle.fields.proofs.number.number_at.Statement.{statement}

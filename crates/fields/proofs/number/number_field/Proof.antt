@@ -3,7 +3,7 @@ use mathlib.Core.Path.{sym, ◌∙◌}
 use native.Mathlib.Omega.{arith}
 use borrow.Author.Tests.{eq-eqb, ne_eqb}
 use Rattle.fields.specs.Numbers.{number_field}
-use Rattle.fields.specs.FieldLaws.{inside_text}
+use Rattle.fields.proofs.FieldLaws.{inside_text}
 use borrow.Author.Rules.{rules}
 use Rattle.fields.proofs.number.number_field.Statement.{statement}
 use Rattle.fields.proofs.number.number_field.Tie as tie

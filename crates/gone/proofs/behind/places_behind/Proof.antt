@@ -9,7 +9,7 @@ use lib.Dec.{eqb}
 use lib.ListN.{length, length-set}
 use Rattle.numbers.specs.Counting.{at, count}
 use Rattle.gone.specs.GonePart.{Filled}
-use Rattle.gone.specs.FillLaws.{filled_none, filled_more}
+use Rattle.gone.proofs.FillLaws.{filled_none, filled_more}
 use Rattle.gone.proofs.behind.places_behind.Statement.{statement}
 use Rattle.gone.proofs.behind.places_behind.Tie as tie
 

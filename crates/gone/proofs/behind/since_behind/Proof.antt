@@ -6,7 +6,7 @@ use native.Mathlib.Omega.{arith}
 use lib.ListN.{length, replicate, length-set}
 use Rattle.numbers.specs.Counting.{at}
 use Rattle.gone.specs.GonePart.{Filled}
-use Rattle.gone.specs.FillLaws.{filled_none, filled_more}
+use Rattle.gone.proofs.FillLaws.{filled_none, filled_more}
 use Rattle.gone.proofs.behind.since_behind.Statement.{statement}
 use Rattle.gone.proofs.behind.since_behind.Tie as tie
 

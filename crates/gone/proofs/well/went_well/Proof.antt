@@ -10,10 +10,10 @@ use Rattle.numbers.specs.DecidesLaws.{not_yet, by_now, one_outcome}
 use Rattle.model.specs.Memory.{sheet_of}
 use Rattle.model.specs.declared.Row.{Row}
 use Rattle.foreign.specs.Gathered.{gathered, column_within}
-use Rattle.foreign.specs.SomeRowsLaws.{some_rows}
-use Rattle.foreign.specs.WithinLaws.{within_low}
+use Rattle.foreign.proofs.SomeRowsLaws.{some_rows}
+use Rattle.foreign.proofs.WithinLaws.{within_low}
 use Rattle.foreign.specs.declared.Given.{Given}
-use Rattle.gone.specs.WellLaws.{none_remains, wrong_rows, well_given}
+use Rattle.gone.proofs.WellLaws.{none_remains, wrong_rows, well_given}
 use Rattle.gone.proofs.well.went_well.Statement.{statement}
 use Rattle.gone.proofs.well.went_well.Tie as tie
 

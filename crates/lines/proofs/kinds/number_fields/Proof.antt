@@ -5,9 +5,9 @@ use native.Mathlib.Omega.{arith}
 use lib.ListN.{length, length-set}
 use borrow.Author.Tests.{eq-eqb, ne_eqb}
 use borrow.Author.Rules.{rules}
-use Rattle.fields.specs.FieldLaws.{inside_text}
+use Rattle.fields.proofs.FieldLaws.{inside_text}
 use Rattle.lines.specs.Lines.{record_of, numbers_from, number_fields}
-use Rattle.lines.specs.LineLaws.{few_numbers}
+use Rattle.lines.proofs.LineLaws.{few_numbers}
 use Rattle.lines.proofs.kinds.number_fields.Statement.{statement}
 use Rattle.lines.proofs.kinds.number_fields.Tie as tie
 

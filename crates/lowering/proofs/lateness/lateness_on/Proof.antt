@@ -11,8 +11,8 @@ use mir.Val.{SFits, to_z, of_z}
 use mir.Syntax.{w64}
 use Rattle.numbers.specs.SignedLaws.{pos_sub, sub_size}
 use Rattle.model.specs.Lateness.{lateness}
-use Rattle.model.specs.LatenessLaws.{lateness_size}
-use Rattle.lowering.specs.LoweringStepLaws.{small_fits}
+use Rattle.model.proofs.LatenessLaws.{lateness_size}
+use Rattle.lowering.proofs.LoweringStepLaws.{small_fits}
 use Rattle.lowering.proofs.lateness.lateness_on.Statement.{statement}
 use Rattle.lowering.proofs.lateness.lateness_on.Tie as tie
 

@@ -12,7 +12,7 @@ use mir.Val.{to_z}
 use mir.Syntax.{w64}
 use Rattle.numbers.specs.Counting.{at, nth, larger}
 use Rattle.model.specs.Lateness.{lateness}
-use Rattle.lowering.specs.LoweringStepLaws.{larger_second, larger_first, lateness_small, WorstOf, worst_none, worst_more, worst_all}
+use Rattle.lowering.proofs.LoweringStepLaws.{larger_second, larger_first, lateness_small, WorstOf, worst_none, worst_more, worst_all}
 use Rattle.lowering.proofs.lateness.worst_of.Statement.{statement}
 use Rattle.lowering.proofs.lateness.worst_of.Tie as tie
 

@@ -4,9 +4,9 @@ use mathlib.Core.Path.{◌≡◌, refl}
 use Prim.Native.Nat.{◌-◌, ◌≤◌}
 use native.Mathlib.Omega.{arith}
 use Rattle.numbers.specs.Counting.{at}
-use Rattle.rounds.specs.LoadingLaws.{on}
+use Rattle.rounds.specs.Riding.{on}
 use Rattle.riders.specs.Standing.{waited}
-use Rattle.riders.specs.StepLaws.{greatest_start, greatest_next}
+use Rattle.riders.proofs.StepLaws.{greatest_start, greatest_next}
 use Rattle.riders.proofs.moving.last_waited_for.Statement.{statement}
 use Rattle.riders.proofs.moving.last_waited_for.Tie as tie
 

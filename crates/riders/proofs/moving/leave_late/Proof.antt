@@ -5,7 +5,7 @@ use mathlib.Core.Logic.{◌⊎◌, ⊎_elim}
 use Prim.Native.Nat.{◌-◌, ◌≤◌, ◌<◌}
 use native.Mathlib.Omega.{arith}
 use Rattle.numbers.specs.Counting.{at}
-use Rattle.riders.specs.StepLaws.{left_late, left_in_time}
+use Rattle.riders.proofs.StepLaws.{left_late, left_in_time}
 use Rattle.riders.specs.Riders.{LeftTo}
 use Rattle.riders.proofs.moving.leave_late.Statement.{statement}
 use Rattle.riders.proofs.moving.leave_late.Tie as tie

@@ -7,7 +7,7 @@ use native.Mathlib.Omega.{arith}
 use lib.ListN.{set}
 use Rattle.numbers.specs.Counting.{at}
 use Rattle.riders.specs.Riders.{Counted}
-use Rattle.riders.specs.CountedLaws.{rides_one, counted_moved, few_moved}
+use Rattle.riders.proofs.CountedLaws.{rides_one, counted_moved, few_moved}
 use Rattle.riders.proofs.moving.move_order.Statement.{statement}
 use Rattle.riders.proofs.moving.move_order.Tie as tie
 

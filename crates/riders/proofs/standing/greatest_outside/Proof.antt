@@ -6,7 +6,7 @@ use Prim.Native.Nat.{ℕ, ◌-◌, ◌≤◌}
 use native.Mathlib.Omega.{arith}
 use Rattle.numbers.specs.Counting.{at}
 use Rattle.riders.specs.Standing.{standing, best, could}
-use Rattle.riders.specs.StepLaws.{greatest_start, greatest_next}
+use Rattle.riders.proofs.StepLaws.{greatest_start, greatest_next}
 use Rattle.riders.proofs.standing.greatest_outside.Statement.{statement}
 use Rattle.riders.proofs.standing.greatest_outside.Tie as tie
 

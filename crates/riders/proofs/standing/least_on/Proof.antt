@@ -5,9 +5,9 @@ use mathlib.Core.Bool.{cond}
 use Prim.Native.Nat.{ℕ, ◌-◌, ◌≤◌}
 use native.Mathlib.Omega.{arith}
 use Rattle.numbers.specs.Counting.{at}
-use Rattle.rounds.specs.LoadingLaws.{on}
+use Rattle.rounds.specs.Riding.{on}
 use Rattle.riders.specs.Standing.{standing, beyond, least}
-use Rattle.riders.specs.StepLaws.{least_start, least_next}
+use Rattle.riders.proofs.StepLaws.{least_start, least_next}
 use Rattle.riders.proofs.standing.least_on.Statement.{statement}
 use Rattle.riders.proofs.standing.least_on.Tie as tie
 

@@ -7,8 +7,8 @@ use lib.ListN.{length, length-set}
 use Rattle.numbers.specs.Counting.{at}
 use Rattle.riders.specs.Standing.{Lowest}
 use Rattle.riders.specs.Riders.{Counted}
-use Rattle.riders.specs.CountedLaws.{few_ride}
-use Rattle.riders.specs.StepLaws.{counted_start, counted_more, lowest_start, lowest_more}
+use Rattle.riders.proofs.CountedLaws.{few_ride}
+use Rattle.riders.proofs.StepLaws.{counted_start, counted_more, lowest_start, lowest_more}
 use Rattle.riders.proofs.standing.survey.Statement.{statement}
 use Rattle.riders.proofs.standing.survey.Tie as tie
 

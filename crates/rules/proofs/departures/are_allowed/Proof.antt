@@ -2,9 +2,9 @@
 use borrow.Author.Rules.{rules}
 use mathlib.Core.Path.{◌∙◌}
 use Rattle.numbers.specs.Counting.{nth}
-use Rattle.model.specs.MemoryLaws.{windows_few}
+use Rattle.model.proofs.MemoryLaws.{windows_few}
 use Rattle.model.specs.declared.Form.TheVariants.{Windows, Timetable}
-use Rattle.rules.specs.RulesLaws.{allowed_by_form}
+use Rattle.rules.proofs.RulesLaws.{allowed_by_form}
 use Rattle.rules.proofs.departures.are_allowed.Statement.{statement}
 use Rattle.rules.proofs.departures.are_allowed.Tie as tie
 

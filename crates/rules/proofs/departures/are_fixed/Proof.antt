@@ -1,7 +1,7 @@
 -- `rules::departures::are_fixed` meets its contract: what is not above the other, either way, is the same. Assumes nothing.
 use borrow.Author.Rules.{rules}
 use Rattle.numbers.specs.Counting.{nth}
-use Rattle.rules.specs.RulesLaws.{each_same}
+use Rattle.rules.proofs.RulesLaws.{each_same}
 use Rattle.rules.proofs.departures.are_fixed.Statement.{statement}
 use Rattle.rules.proofs.departures.are_fixed.Tie as tie
 

@@ -7,7 +7,7 @@ use native.Mathlib.Omega.{arith}
 use lib.Dec.{leb}
 use Rattle.numbers.specs.Counting.{nth, every, any}
 use Rattle.numbers.specs.CountingLaws.{every_start, every_more}
-use Rattle.columns.specs.ColumnLaws.{nth_at}
+use Rattle.columns.proofs.ColumnLaws.{nth_at}
 use Rattle.rules.proofs.departures.are_open.Statement.{statement}
 use Rattle.rules.proofs.departures.are_open.Tie as tie
 

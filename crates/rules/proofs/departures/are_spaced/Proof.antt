@@ -8,7 +8,7 @@ use mir.Syntax.{w32}
 use mir.Val.{Fits}
 use Rattle.numbers.specs.Counting.{at, nth, every}
 use Rattle.numbers.specs.CountingLaws.{every_start}
-use Rattle.rules.specs.RulesLaws.{spaced_more}
+use Rattle.rules.proofs.RulesLaws.{spaced_more}
 use Rattle.rules.proofs.departures.are_spaced.Statement.{statement}
 use Rattle.rules.proofs.departures.are_spaced.Tie as tie
 

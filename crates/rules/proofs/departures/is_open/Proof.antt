@@ -7,7 +7,7 @@ use native.Mathlib.Omega.{arith}
 use lib.Dec.{leb}
 use Rattle.numbers.specs.Counting.{nth, some}
 use Rattle.numbers.specs.CountingLaws.{some_start, some_more}
-use Rattle.columns.specs.ColumnLaws.{nth_at}
+use Rattle.columns.proofs.ColumnLaws.{nth_at}
 use Rattle.rules.proofs.departures.is_open.Statement.{statement}
 use Rattle.rules.proofs.departures.is_open.Tie as tie
 

@@ -4,9 +4,9 @@ use native.Mathlib.Omega.{arith}
 use mir.Facts.{to_z-of_z}
 use mir.Syntax.{w64}
 use Rattle.model.specs.Memory.{sheet_of}
-use Rattle.columns.specs.ColumnLaws.{loaded_column}
-use Rattle.lowering.specs.RangedLaws.{in_ranges, arrives}
-use Rattle.rules.specs.RulesLaws.{leaves_in_time, arrives_in_time, arrival_is, worst_is}
+use Rattle.columns.proofs.ColumnLaws.{loaded_column}
+use Rattle.lowering.proofs.RangedLaws.{in_ranges, arrives}
+use Rattle.rules.proofs.RulesLaws.{leaves_in_time, arrives_in_time, arrival_is, worst_is}
 use Rattle.rules.proofs.pair.pair_of.Statement.{statement}
 use Rattle.rules.proofs.pair.pair_of.Tie as tie
 

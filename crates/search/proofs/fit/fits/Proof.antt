@@ -3,9 +3,9 @@ use borrow.Author.Rules.{rules}
 use native.Mathlib.Omega.{arith}
 use Rattle.numbers.specs.DecidesLaws.{test_means, test_fails, not_yet, by_now}
 use Rattle.model.specs.Memory.{sheet_of}
-use Rattle.model.specs.MemoryLaws.{few_places}
+use Rattle.model.proofs.MemoryLaws.{few_places}
 use Rattle.columns.specs.Columns.{UpTo}
-use Rattle.search.specs.PartsLaws.{decides_begun, not_begun}
+use Rattle.search.proofs.PartsLaws.{decides_begun, not_begun}
 use Rattle.search.proofs.fit.fits.Statement.{statement}
 use Rattle.search.proofs.fit.fits.Tie as tie
 

@@ -4,7 +4,7 @@ use Rattle.model.specs.Memory.{sheet_of}
 use Rattle.model.specs.Sheet.{Sheet}
 use Rattle.rounds.specs.Outset.{Outset}
 use Rattle.rounds.specs.SettingOut.{Sets}
-use Rattle.rounds.specs.AimLaws.{ordinary_sets}
+use Rattle.rounds.proofs.AimLaws.{ordinary_sets}
 use Rattle.search.specs.Shows.{MakesFrom}
 use Rattle.search.specs.Parts.{BegunFrom}
 use Rattle.search.proofs.round.round.Statement.{statement}

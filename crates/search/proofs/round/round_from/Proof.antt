@@ -20,17 +20,17 @@ use Rattle.rounds.specs.Timing.{stopped, timed}
 use Rattle.rounds.specs.Outset.{Outset}
 use Rattle.rounds.specs.Rounds.{loading_from, times_from}
 use Rattle.columns.specs.Columns.{UpTo, Loaded}
-use Rattle.columns.specs.ColumnLaws.{loaded_column}
+use Rattle.columns.proofs.ColumnLaws.{loaded_column}
 use Rattle.loading.specs.ToLoad.{ToLoad}
 use Rattle.timing.specs.Timed.{timed_in}
 use Rattle.timing.specs.declared.Times.{Times}
-use Rattle.lowering.specs.RangedLaws.{in_ranges, arrives}
-use Rattle.lowering.specs.LoweringStepLaws.{worst_taken, lower_taken}
+use Rattle.lowering.proofs.RangedLaws.{in_ranges, arrives}
+use Rattle.lowering.proofs.LoweringStepLaws.{worst_taken, lower_taken}
 use Rattle.search.specs.Setting.{outset_of}
-use Rattle.search.specs.SettingLaws.{places_few, places_enough}
+use Rattle.search.proofs.SettingLaws.{places_few, places_enough}
 use Rattle.search.specs.Parts.{BegunFrom, Graded}
-use Rattle.search.specs.PartsLaws.{loads, few_rounds, made_in_time, arrives_to}
-use Rattle.search.specs.RoundLaws.{round_stopped, round_made}
+use Rattle.search.proofs.PartsLaws.{loads, few_rounds, made_in_time, arrives_to}
+use Rattle.search.proofs.RoundLaws.{round_stopped, round_made}
 use Rattle.search.specs.declared.Outset as memory
 use Rattle.search.specs.declared.Progress.{Progress}
 use Rattle.search.proofs.round.round_from.Statement.{statement}

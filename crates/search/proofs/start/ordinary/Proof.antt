@@ -1,6 +1,6 @@
 -- `search::start::ordinary` meets its contract: its columns are the ordinary outset. Assumes nothing.
 use native.Mathlib.Omega.{arith}
-use Rattle.search.specs.SettingLaws.{alone_is_ordinary}
+use Rattle.search.proofs.SettingLaws.{alone_is_ordinary}
 use Rattle.search.proofs.start.ordinary.Statement.{statement}
 use Rattle.search.proofs.start.ordinary.Tie as tie
 

@@ -1,6 +1,6 @@
 -- `search::start::start_from` meets its contract: nothing is recorded yet, and no order has a train. Assumes nothing.
 use mathlib.Core.Path.{refl}
-use Rattle.search.specs.ShowsLaws.{starts}
+use Rattle.search.proofs.ShowsLaws.{starts}
 use Rattle.search.proofs.start.start_from.Statement.{statement}
 use Rattle.search.proofs.start.start_from.Tie as tie
 

@@ -6,8 +6,8 @@ use native.Mathlib.Omega.{arith}
 use lib.ListN.{length}
 use Rattle.model.specs.declared.Form.{Form}
 use Rattle.sheet.specs.Reading.{read_from}
-use Rattle.sheet.specs.ReadingLaws.{Rest, rest_starts, rest_ends, rest_malformed, rest_faulty, rest_goes_on, next_later}
-use Rattle.gather.specs.SheetLinesLaws.{Good, good_counts, no_lines_good, one_more, lines_more}
+use Rattle.sheet.proofs.ReadingLaws.{Rest, rest_starts, rest_ends, rest_malformed, rest_faulty, rest_goes_on, next_later}
+use Rattle.gather.proofs.SheetLinesLaws.{Good, good_counts, no_lines_good, one_more, lines_more}
 use borrow.Author.Rules.{rules}
 use Rattle.sheet.proofs.walk.lines_from.Statement.{statement}
 use Rattle.sheet.proofs.walk.lines_from.Tie as tie

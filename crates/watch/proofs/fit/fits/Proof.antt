@@ -2,8 +2,8 @@
 use borrow.Author.Rules.{rules}
 use Rattle.model.specs.Memory.{sheet_of}
 use Rattle.model.specs.Admission.{Admitted}
-use Rattle.room.specs.CallLaws.{admitted}
-use Rattle.watch.specs.FitLaws.{unfit, decides_ended, decides_going}
+use Rattle.room.proofs.CallLaws.{admitted}
+use Rattle.watch.proofs.FitLaws.{unfit, decides_ended, decides_going}
 use Rattle.watch.proofs.fit.fits.Statement.{statement}
 use Rattle.watch.proofs.fit.fits.Tie as tie
 

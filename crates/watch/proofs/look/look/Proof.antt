@@ -1,6 +1,6 @@
 -- `watch::look::look` meets its contract: a count that the area holds. Assumes nothing.
 use native.Mathlib.Omega.{arith}
-use Rattle.watch.specs.CallLaws.{look_here, look_none}
+use Rattle.watch.proofs.CallLaws.{look_here, look_none}
 use Rattle.watch.proofs.look.look.Statement.{statement}
 use Rattle.watch.proofs.look.look.Tie as tie
 

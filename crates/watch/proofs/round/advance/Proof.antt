@@ -11,14 +11,14 @@ use mir.Syntax.{w64}
 use Rattle.numbers.specs.DecidesLaws.{test_means, by_now, not_yet}
 use Rattle.model.specs.Memory.{sheet_of}
 use Rattle.model.specs.Sheet.{Sheet}
-use Rattle.rounds.specs.BoundLaws.{bound_most}
+use Rattle.rounds.proofs.BoundLaws.{bound_most}
 use Rattle.rounds.specs.ByRound.{SearchAreas, all_areas, SearchRoom}
-use Rattle.rounds.specs.ByRoundLaws.{decides_search_room}
+use Rattle.rounds.proofs.ByRoundLaws.{decides_search_room}
 use Rattle.search.specs.Shows.{Makes}
 use Rattle.search.specs.declared.Progress.{Progress}
 use Rattle.watch.specs.State.{progress_of}
 use Rattle.watch.specs.Fit.{Fits}
-use Rattle.watch.specs.AdvanceLaws.{moves_same, moves_better}
+use Rattle.watch.proofs.AdvanceLaws.{moves_same, moves_better}
 use Rattle.watch.specs.declared.State.{State}
 use Rattle.watch.proofs.round.advance.Statement.{statement}
 use Rattle.watch.proofs.round.advance.Tie as tie

@@ -3,7 +3,7 @@ use borrow.Author.Rules.{rules}
 use Rattle.numbers.specs.DecidesLaws.{test_means, test_fails, by_now, not_yet}
 use Rattle.model.specs.Memory.{sheet_of}
 use Rattle.rounds.specs.ByRound.{SearchAreas, all_areas}
-use Rattle.watch.specs.RoundCallLaws.{FitsHere, round_none, round_ended, round_made}
+use Rattle.watch.proofs.RoundCallLaws.{FitsHere, round_none, round_ended, round_made}
 use Rattle.watch.proofs.round.round.Statement.{statement}
 use Rattle.watch.proofs.round.round.Tie as tie
 

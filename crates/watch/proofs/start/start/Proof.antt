@@ -3,8 +3,8 @@ use borrow.Author.Rules.{rules}
 use mathlib.Core.Path.{◌≡◌}
 use Rattle.model.specs.Memory.{sheet_of}
 use Rattle.rounds.specs.ByRound.{SearchAreas, all_areas, start_to}
-use Rattle.room.specs.CallLaws.{admitted}
-use Rattle.watch.specs.CallLaws.{start_refused, start_granted}
+use Rattle.room.proofs.CallLaws.{admitted}
+use Rattle.watch.proofs.CallLaws.{start_refused, start_granted}
 use Rattle.watch.proofs.start.start.Statement.{statement}
 use Rattle.watch.proofs.start.start.Tie as tie
 

@@ -1,0 +1,2 @@
+pub mod BoundCallLaws
+pub mod FigureLaws

@@ -1,0 +1,4 @@
+pub mod ListedLaws
+pub mod JudgingLaws
+pub mod CheckingLaws
+pub mod OwnPlans

@@ -1,0 +1,3 @@
+pub mod ExportedLaws
+pub mod ExportedBoundLaws
+pub mod ExportedPlanningLaws

@@ -1,0 +1,4 @@
+pub mod FillLaws
+pub mod WellLaws
+pub mod BehindLaws
+pub mod ReadyLaws

@@ -1,0 +1,4 @@
+pub mod StageLaws
+pub mod TurnLaws
+pub mod SkipLaws
+pub mod BeginLaws

@@ -1,0 +1,2 @@
+pub mod RangedLaws
+pub mod LoweringStepLaws

@@ -1,0 +1,10 @@
+pub mod SheetLaws
+pub mod ArrivalLaws
+pub mod LatenessLaws
+pub mod RefusalLaws
+pub mod AdmissionLaws
+pub mod ScheduleTestLaws
+pub mod ForeignLaws
+pub mod GoneTestLaws
+pub mod MemoryLaws
+pub mod CaseLaws

@@ -1,0 +1,206 @@
+-- Laws of listing a pair and of writing a plan. Assumes nothing.
+use Rattle.std.specs.Prelude.{◌≡◌, refl, ◌⊎◌, cond, List, [], ◌∷◌, ◌++◌, eqb, ℤ, pos, length, set, take, drop}
+use Rattle.std.proofs.Common.{sym, ap, ◌∙◌, subst, inl, inr, add-one, length-append, length-drop, length-take, length-set, eq-eqb, ne_eqb}
+use Prim.Native.Nat.{ℕ, zero, suc, ◌+◌, ◌*◌, ◌-◌, ◌≤◌, ◌<◌}
+use native.Mathlib.Omega.{arith}
+use Rattle.std.proofs.Math.Seq.{get_or-take}
+use Rattle.numbers.specs.Counting.{at}
+use Rattle.numbers.specs.DecidesLaws.{decided, decides_eq}
+use Rattle.numbers.specs.Over.{over}
+use Rattle.numbers.specs.OverLaws.{store_two_behind, store_three_behind, store_two_over, copy_next}
+use Rattle.model.specs.Limits.{numbers_a_pair, numbers_a_train}
+use Rattle.model.specs.Lateness.{Pair}
+use Rattle.rounds.specs.Recording.{Entry, record_entry, listed, recorded_arrival}
+use Rattle.rounds.proofs.RecordingLaws.{FromEnd, nothing, behind, from_end, record_same, record_other}
+use Rattle.rounds.proofs.RecordingLaws.{listed_behind, listed_length, last_behind, arrival_recorded}
+use Rattle.rounds.specs.Areas.{pair_numbers, time_numbers}
+use Rattle.rounds.proofs.AreaLaws.{pair_numbers_length, pair_numbers_behind, time_numbers_length}
+use Rattle.recording.specs.Recorded.{place, held_list, Lists, ListsMore}
+
+-- ---- the place of the next pair
+
+pub place_same : (k last arrival : ℕ) → 0 < k → last ≡ arrival → k - 1 ≡ place k last arrival
+unfolding place
+place_same zero last arrival h e = absurd (omega arith)
+place_same (suc k) last arrival h e = simp (eq-eqb last arrival e) (omega arith)
+
+pub place_behind : (k last arrival : ℕ) → ¬ ((0 < k) × (last ≡ arrival)) → k ≡ place k last arrival
+unfolding place
+place_behind zero last arrival h = refl
+place_behind (suc k) last arrival h = simp (ne_eqb last arrival (λ e. h (omega arith, e)))
+
+pub place_most : (k last arrival : ℕ) → place k last arrival ≤ k
+unfolding place
+place_most zero last arrival = omega arith
+place_most (suc k) last arrival = go (decided (decides_eq last arrival))
+  where
+    go : (last ≡ arrival) ⊎ (¬ (last ≡ arrival)) → cond (eqb last arrival) k (suc k) ≤ suc k
+    go (inl e) = rw (eq-eqb last arrival e) (omega arith)
+    go (inr e) = rw (ne_eqb last arrival e) (omega arith)
+
+-- ---- the pairs area once the pair p is written in its place
+
+-- the pair written at place k of an area
+abbrev written : Pair → ℕ → List ℤ → List ℤ
+written p k area = set (set area (numbers_a_pair * k) (pos p.last)) (numbers_a_pair * k + 1) p.worst
+
+module _ (p : Pair) (found : List ℤ) where
+  module _ (ps : List Pair) (k : ℕ) (e : length ps ≡ k) where
+    -- behind k others
+    pair_added : numbers_a_pair * k + 1 < length found → written p k (over (pair_numbers ps) found) ≡ over (pair_numbers (ps ++ (p ∷ []))) found
+    pair_added h =
+        store_two_behind (pair_numbers ps) found (numbers_a_pair * k) (pos p.last) p.worst (omega (arith, pair_numbers_length ps)) h
+        ∙ ap (λ f. over f found) (sym (pair_numbers_behind ps p))
+
+    -- in place of the one behind k others
+    pair_replaced : (p₀ : Pair) → written p k (over (pair_numbers (ps ++ (p₀ ∷ []))) found) ≡ over (pair_numbers (ps ++ (p ∷ []))) found
+    pair_replaced p₀ =
+        rw (pair_numbers_behind ps p₀, pair_numbers_behind ps p)
+        (store_two_over (pair_numbers ps) found (numbers_a_pair * k) (pos p₀.last) p₀.worst (pos p.last) p.worst
+        (omega (arith, pair_numbers_length ps)))
+
+  record Written (k : ℕ) (area : List ℤ) (entries : List Entry) : Type 0 where
+    pub area_is : written p k area ≡ over (pair_numbers (listed entries)) found
+    pub count_is : k + 1 ≡ length entries
+
+  -- over the last entry, or behind it
+  module _ (e : Entry) (is : e.pair ≡ p) where
+    again : (before : List Entry) (e₀ : Entry) → Written (length before) (over (pair_numbers (listed (before ++ (e₀ ∷ [])))) found) (before ++ (e ∷ []))
+    again before e₀ =
+        record {
+          area_is = rw (listed_behind before e₀, listed_behind before e, is) (pair_replaced (listed before) (length before) (listed_length before) e₀.pair);
+          count_is = simp length-append;
+        }
+
+    after : (entries : List Entry) → numbers_a_pair * length entries + 1 < length found
+        → Written (length entries) (over (pair_numbers (listed entries)) found) (entries ++ (e ∷ []))
+    after entries room =
+        record {
+          area_is = rw (listed_behind entries e, is) (pair_added (listed entries) (length entries) (listed_length entries) room);
+          count_is = simp length-append;
+        }
+
+-- the room behind the list, of the area as found
+room_found : (found : List ℤ) (entries : List Entry) (k : ℕ) → k ≡ length entries → numbers_a_pair * k + 1 < length (over (pair_numbers (listed entries)) found)
+    → numbers_a_pair * k + 1 < length found
+room_found found entries k e h =
+    let ps = pair_numbers (listed entries) in
+    omega (arith, h, pair_numbers_length (listed entries), listed_length entries, length-append ps (drop (length ps) found), length-drop (length ps) found)
+
+-- THE LIST WITH ONE MORE PAIR
+pub lists_more : (count last arrival : ℕ) (worst : ℤ) (area : List ℤ) → numbers_a_pair * count + 1 < length area
+    → (k : ℕ) → k ≡ place count last arrival → (area' : List ℤ) → area' ≡ written (record { last = arrival; worst = worst }) k area
+    → ListsMore (held_list count last area) (held_list (k + 1) arrival area') arrival worst
+unfolding record_entry
+lists_more count last arrival worst area room k at_place area' is_written found entries e is l =
+    go entries (from_end entries) l.count_is l.last_is l.area_is
+  where
+    p : Pair
+    p = record { last = arrival; worst = worst }
+
+    after_recording : (entries : List Entry) → Written p found k area (record_entry entries e)
+        → Lists found (held_list (k + 1) arrival area') (record_entry entries e)
+    after_recording entries w =
+        record {
+          count_is = w.count_is;
+          last_is = sym (arrival_recorded entries e ∙ ap (λ (x : Pair). x.last) is);
+          area_is = is_written ∙ w.area_is;
+        }
+
+    -- where the pair stands, and what the area was
+    placed : {area₀ : List ℤ} {after : List Entry} {m : ℕ} → k ≡ m → area ≡ area₀ → Written p found m area₀ after → Written p found k area after
+    placed {area₀} {after} {m} u h w =
+        subst (λ (v : ℕ). Written p found v area after) (sym u) (subst (λ (x : List ℤ). Written p found m x after) (sym h) w)
+
+    go : (entries : List Entry) → FromEnd entries → count ≡ length entries → last ≡ recorded_arrival entries → area ≡ over (pair_numbers (listed entries)) found
+        → Lists found (held_list (k + 1) arrival area') (record_entry entries e)
+    go entries nothing c t h =
+        let z : k ≡ length entries = at_place ∙ sym (place_behind count last arrival (λ h. omega (arith, c, h.0))) ∙ c in
+        after_recording [] (placed z h (after p found e is [] (omega (arith, c, room_found found [] count c (rw h at room)))))
+    go entries (behind before e₀) c t h = split (decided (decides_eq last arrival))
+      where
+        all : List Entry
+        all = before ++ (e₀ ∷ [])
+
+        some : 0 < count
+        some = omega (arith, c, length-append before (e₀ ∷ []))
+
+        last_arrived : e₀.pair.last ≡ last
+        last_arrived = sym (t ∙ ap (λ (x : Entry). x.pair.last) (last_behind before e₀))
+
+        arrived : e.pair.last ≡ arrival
+        arrived = ap (λ (x : Pair). x.last) is
+
+        split : (last ≡ arrival) ⊎ (¬ (last ≡ arrival)) → Lists found (held_list (k + 1) arrival area') (record_entry all e)
+        split (inl u) =
+            let here : k ≡ length before = omega (arith, at_place, place_same count last arrival some u, c, length-append before (e₀ ∷ [])) in
+            let same : record_entry all e ≡ before ++ (e ∷ []) = record_same before e₀ e (last_arrived ∙ u ∙ sym arrived) in
+            after_recording all (placed here h (rw same (again p found e is before e₀)))
+        split (inr u) =
+            let here : k ≡ length all = at_place ∙ sym (place_behind count last arrival (λ h. u h.1)) ∙ c in
+            let other : record_entry all e ≡ all ++ (e ∷ []) = record_other before e₀ e (λ v. u (sym last_arrived ∙ v ∙ arrived)) in
+            let space : numbers_a_pair * length all + 1 < length found = omega (arith, c, room_found found all count c (rw h at room)) in
+            after_recording all (placed here h (rw other (after p found e is all space)))
+
+-- ---- loops that write from the end: what is still to be written, over what is there, is what it was before the turn
+
+set_over : {A : Type 0} (written found : List A) (k : ℕ) (v : A) → length written ≤ k → k < length found
+    → over written (set found k v) ≡ set (over written found) k v
+set_over [] found k v h l = refl
+set_over (x ∷ f) [] k v h l = absurd (omega arith)
+set_over (x ∷ f) (y ∷ ys) zero v h l = absurd (omega arith)
+set_over (x ∷ f) (y ∷ ys) (suc k) v h l = ap (λ r. x ∷ r) (set_over f ys k v (omega arith) (omega arith))
+
+-- an element of a list
+pub copy_last : (l found : List ℕ) (n : ℕ) → 0 < n → n ≤ length l → n ≤ length found
+    → over (take (n - 1) l) (set found (n - 1) (at l (n - 1))) ≡ over (take n l) found
+copy_last l found n some few h =
+    let j = n - 1 in
+    let e : j + 1 ≡ n = omega arith in
+    let short : length (take j l) ≤ j = simp length-take (omega arith) in
+    set_over (take j l) found j (at l j) short (omega arith)
+    ∙ copy_next l found j (omega arith) (omega arith)
+    ∙ ap (λ (m : ℕ). over (take m l) found) e
+
+-- the times of a train
+module _ (departure arrival window found : List ℕ) (all : ℕ) where
+  -- of the first i trains
+  abbrev times : ℕ → List ℕ
+  times i = time_numbers (take all departure) (take all arrival) (take all window) i
+
+  -- where those of train i + 1 begin
+  abbrev begin : ℕ → ℕ
+  begin i = numbers_a_train * i
+
+  times_long : (i : ℕ) → length (times i) ≡ begin i
+  times_long = time_numbers_length (take all departure) (take all arrival) (take all window)
+
+  -- those of train i + 1, written in an area
+  abbrev written_times : (i : ℕ) → List ℕ → List ℕ
+  written_times i area = set (set (set area (begin i) (at departure i)) (begin i + 1) (at arrival i)) (begin i + 1 + 1) (at window i)
+
+  times_next : (i : ℕ) → i < all → begin i + 1 + 1 < length found → written_times i (over (times i) found) ≡ over (times (i + 1)) found
+  unfolding time_numbers
+  times_next i few h =
+      let b : suc i - 1 ≡ i = omega arith in
+      rw (add-one i, b, get_or-take all departure i 0 few, get_or-take all arrival i 0 few, get_or-take all window i 0 few)
+      (store_three_behind (times i) found (begin i) (at departure i) (at arrival i) (at window i) (times_long i) h)
+
+  -- a store behind the times of the first i trains, in an area as long as the one found
+  store_over : (i k v : ℕ) (area : List ℕ) → begin i ≤ k → k < length found → length area ≡ length found
+      → over (times i) (set area k v) ≡ set (over (times i) area) k v
+  store_over i k v area h l e = set_over (times i) area k v (omega (arith, times_long i)) (omega arith)
+
+  pub times_last : (q : ℕ) → 0 < q → q ≤ all → begin q ≤ length found → over (times (q - 1)) (written_times (q - 1) found) ≡ over (times q) found
+  times_last q some few h =
+      let i = q - 1 in
+      let e : i + 1 ≡ q = omega arith in
+      let once = set found (begin i) (at departure i) in
+      let twice = set once (begin i + 1) (at arrival i) in
+      store_over i (begin i + 1 + 1) (at window i) twice (omega arith) (omega arith) (simp length-set)
+      ∙ ap (λ (l : List ℕ). set l (begin i + 1 + 1) (at window i))
+      (store_over i (begin i + 1) (at arrival i) once (omega arith) (omega arith) (simp length-set)
+      ∙ ap (λ (l : List ℕ). set l (begin i + 1) (at arrival i))
+      (store_over i (begin i) (at departure i) found (omega arith) (omega arith) refl))
+      ∙ times_next i (omega arith) (omega arith)
+      ∙ ap (λ (m : ℕ). over (times m) found) e

@@ -1,0 +1,4 @@
+pub mod AsEver
+pub mod OutcomeLaws
+pub mod ContractLaws
+pub mod ReplanningLaws

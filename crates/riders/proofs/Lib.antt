@@ -1,0 +1,3 @@
+pub mod StandingLaws
+pub mod CountedLaws
+pub mod StepLaws

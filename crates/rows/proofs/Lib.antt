@@ -1,0 +1,5 @@
+pub mod FaultLaws
+pub mod ColumnLaws
+pub mod OrderLaws
+pub mod WindowLaws
+pub mod TrainLaws

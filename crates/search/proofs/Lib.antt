@@ -1,0 +1,5 @@
+pub mod SettingLaws
+pub mod ShowsLaws
+pub mod PartsLaws
+pub mod RoundLaws
+pub mod RunLaws
