@@ -1,10 +1,11 @@
 // Plans the sheet on standard input, and prints the plan or the refusal.
 #![tactic(auto)]
 
-use libc::STDIN_FILENO;
+use report::MOST_TEXT;
+use std::io;
 
-fn main() {
-    let mut buffer = io::large_buffer();
-    let length = io::read_full(STDIN_FILENO, &mut buffer);
-    report::print(&buffer[..length]);
+fn main(rt: HostRuntime) -> io::Result<()> {
+    let mut text = [0u8; MOST_TEXT];
+    let length = report::read_text(&mut rt.stdin(), &mut text)?;
+    report::print(&rt, &text[..length])
 }

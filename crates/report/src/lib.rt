@@ -1,11 +1,32 @@
-// What the programs print: the plan of a text or its refusal, to standard output.
+// What the programs read and print: the text of a sheet, and the plan of it or its refusal.
 #![tactic(auto)]
 
-use libc::STDOUT_FILENO;
-use model::limits::MOST_PRINTED;
+ghost use Rattle.std.specs.Prelude.{◌≤◌, IfOk, length};
 
-pub fn print(text: &[u8]) {
+use model::limits::MOST_PRINTED;
+use std::io::{self, Print, Read, Write};
+
+// A text is read as far as this many bytes.
+pub const MOST_TEXT: usize = 65536;
+
+// Reads until the buffer is full or the input ends. Gives how many bytes it put to the front of the buffer.
+pub fn read_text<R: Read>(reader: &mut R, text: &mut [u8]) -> io::Result<usize>
+    ensures { IfOk result (λ n. n ≤ length text.new) }
+{
+    let mut done = 0;
+    while done < text.len() {
+        let count = reader.read(&mut text[done..])?;
+        if count == 0 {
+            break;
+        }
+        done += count;
+    }
+    Ok(done)
+}
+
+// Prints the plan of a text, or its refusal, to standard output.
+pub fn print<P: Print>(rt: &P, text: &[u8]) -> io::Result<()> {
     let mut page: [u8; MOST_PRINTED] = [0; MOST_PRINTED];
     let length = desk::print_text(text, &mut page);
-    io::write_all(STDOUT_FILENO, &page[0..length]);
+    io::writer(rt).write_all(&page[..length])
 }

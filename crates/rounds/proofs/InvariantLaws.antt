@@ -19,6 +19,7 @@ use Rattle.rounds.proofs.RoundsLaws.{one_end}
 use Rattle.rounds.proofs.SumLaws.{sum_le, sum_same}
 use Rattle.rounds.proofs.TimingRuleLaws.{least_run}
 use Rattle.rounds.proofs.ScheduleLaws.{Run, rule}
+use Rattle.rounds.proofs.ShortTrainLaws.{leaves_at_once}
 use Rattle.rounds.proofs.AimLaws.{Aim, whole, rounds_of, recorded_of, search_of}
 use Rattle.rounds.proofs.FrontSoFarLaws.{nothing_yet}
 use Rattle.rounds.proofs.OneRoundLaws.{EmptyWait, OnRecord, Going, Ended, Invariant, still, finished, bounded_now, among, round_keeps}
@@ -159,4 +160,4 @@ module _ (s : Sheet) (a : Aim s) where
 
 -- of the sheet alone, the empty trains wait only for gap and window
 pub empty_at_once : (s : Sheet) (a : Admitted s) (e : Entry) → EmptyWait s (whole s a) e → EntryEmptyTrains s e
-empty_at_once s a e h = record { leave_at_once = h }
+empty_at_once s a e h = record { leave_at_once = λ i p l none. leaves_at_once s.paths (nth e.plan.departure) i (h i p l none) }

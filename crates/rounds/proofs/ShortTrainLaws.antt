@@ -8,7 +8,7 @@ use Rattle.numbers.specs.DecidesLaws.{decides_le, decides_eq, decided, cond_yes,
 use Rattle.model.specs.Sheet.{Windows, Paths, windows, timetable, Sheet, places}
 use Rattle.model.specs.Schedule.{Open, InWindows, Departures, Schedule}
 use Rattle.model.specs.Arrival.{arrival}
-use Rattle.model.specs.ShortTrains.{MayLeave, LeavesFrom, FullSchedule}
+use Rattle.model.specs.ShortTrains.{MayLeave, LeavesAtOnce, LeavesFrom, FullSchedule}
 use Rattle.rounds.specs.Riding.{on}
 use Rattle.rounds.proofs.TimingLaws.{Covers}
 use Rattle.rounds.proofs.TimingRuleLaws.{NoLater}
@@ -58,6 +58,10 @@ module _ (w : Windows) (q : ℕ) (released S : ℕ → ℕ) (ok : InWindows w q 
       go : At j → released j ≤ sooner j
       go (here u e) = rw (u, sooner_at) nothing
       go (elsewhere u e) = rw e (cov j a b)
+
+pub leaves_at_once : (f : Paths) (S : ℕ → ℕ) (i : ℕ) → LeavesFrom f S 0 i → LeavesAtOnce f S i
+leaves_at_once (timetable x) S i h = h
+leaves_at_once (windows w) S i h = λ t. h t (omega arith)
 
 -- A TRAIN THAT AWAITS NO RELEASE LEAVES SO, where the departures are the least
 pub leaves_from : (f : Paths) (q : ℕ) (released S : ℕ → ℕ) → Departures f q S → Covers q released S

@@ -1,43 +1,22 @@
-// Plans each stored sheet that the file `list` names, and prints its name and its plan.
+// Plans each stored sheet that the file `list` names, a name a line, and prints its name and its plan.
 #![tactic(auto)]
 
-use libc::STDOUT_FILENO;
+use report::MOST_TEXT;
+use std::fs::{self, File};
+use std::io;
 
-fn plan_file(name: &[u8]) {
-    io::write_all(STDOUT_FILENO, name);
-    io::write_all(STDOUT_FILENO, b"\n");
-    let file = os::open_read(name);
-    if file < 0 {
-        os::fail(name);
-        return;
-    }
-    let mut buffer = io::large_buffer();
-    let length = io::read_full(file, &mut buffer);
-    libc::close(file);
-    report::print(&buffer[..length]);
+fn plan_file(rt: &HostRuntime, name: &str) -> io::Result<()> {
+    println!(rt; "{name}")?;
+    let mut text = [0u8; MOST_TEXT];
+    let mut file = File::open(rt, name)?;
+    let length = report::read_text(&mut file, &mut text)?;
+    report::print(rt, &text[..length])
 }
 
-// The names end with byte 10 each.
-fn plan_list(names: &[u8]) {
-    let mut start: usize = 0;
-    let mut i: usize = 0;
-    while i < names.len() {
-        if names[i] == 10 {
-            plan_file(&names[start..i]);
-            start = i + 1;
-        }
-        i += 1;
+fn main(rt: HostRuntime) -> io::Result<()> {
+    let names = fs::read_to_string(&rt, "list")?;
+    for name in names.lines() {
+        plan_file(&rt, name)?;
     }
-}
-
-fn main() {
-    let file = os::open_read(b"list");
-    if file < 0 {
-        os::fail(b"list");
-        return;
-    }
-    let mut buffer = io::large_buffer();
-    let length = io::read_full(file, &mut buffer);
-    libc::close(file);
-    plan_list(&buffer[..length]);
+    Ok(())
 }
