@@ -1,0 +1,6 @@
+-- `tests::orders_in_range` meets its contract: the calls give the tests of its columns. Assumes nothing.
+use Rattle.admission.proofs.ColumnTestLaws.{orders_range}
+use Rattle.admission.proofs.tests.orders_in_range.Goals as goal
+
+pub returns : goal.returns
+returns c = (cc (orders_range c.args.sheet))
