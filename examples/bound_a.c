@@ -1,6 +1,6 @@
 /* Asks how long the list of document 01's case a may be, lends just so much, and lists. One number less is refused, and so is a sheet that has a fault.
  *
- *    cc -I include examples/bound_a.c target/staticlib/libcapi.a -o bound_a && ./bound_a
+ *    cc -I include examples/bound_a.c crates/capi/out/libcapi.a -o bound_a && ./bound_a
  */
 #include <inttypes.h>
 #include <stdio.h>

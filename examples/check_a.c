@@ -1,7 +1,7 @@
 /* Checks plans that were brought for document 01's case a, as an instructor does with those on the board: is it a plan, how good is it, and is
  * there a better one.
  *
- *    cc -I include examples/check_a.c target/staticlib/libcapi.a -o check_a && ./check_a
+ *    cc -I include examples/check_a.c crates/capi/out/libcapi.a -o check_a && ./check_a
  */
 #include <inttypes.h>
 #include <stdio.h>

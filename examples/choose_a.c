@@ -1,6 +1,6 @@
 /* Lists the pairs of document 01's case a, and chooses the plan of each of them.
  *
- *    cc -I include examples/choose_a.c target/staticlib/libcapi.a -o choose_a && ./choose_a
+ *    cc -I include examples/choose_a.c crates/capi/out/libcapi.a -o choose_a && ./choose_a
  */
 #include <inttypes.h>
 #include <stdio.h>

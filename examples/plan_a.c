@@ -1,6 +1,6 @@
 /* Lists the pairs of document 01's case a, chooses the plan of the last one, and prints both as the program `plan` does.
  *
- *    cc -I include examples/plan_a.c target/staticlib/libcapi.a -o plan_a && ./plan_a
+ *    cc -I include examples/plan_a.c crates/capi/out/libcapi.a -o plan_a && ./plan_a
  */
 #include <inttypes.h>
 #include <stdio.h>

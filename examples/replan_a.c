@@ -1,6 +1,6 @@
 /* Plans document 01's case a anew after its first train has left: an order D came in, and a third train is put on for it.
  *
- *    cc -I include examples/replan_a.c target/staticlib/libcapi.a -o replan_a && ./replan_a
+ *    cc -I include examples/replan_a.c crates/capi/out/libcapi.a -o replan_a && ./replan_a
  */
 #include <inttypes.h>
 #include <stdio.h>

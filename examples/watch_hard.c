@@ -1,6 +1,6 @@
 /* Watches the search on a sheet of the window form while it runs: shows each pair as it comes, and what replaced it by the time it is final.
  *
- *    cc -I include examples/watch_hard.c target/staticlib/libcapi.a -o watch_hard
+ *    cc -I include examples/watch_hard.c crates/capi/out/libcapi.a -o watch_hard
  *    ./watch_hard crates/stored/data/509-ladder-moving-shuffled-window.sheet
  */
 #include <inttypes.h>

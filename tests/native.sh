@@ -4,7 +4,7 @@
 # The last line counts them all; the exit status is 0 only if none failed.
 set -u
 cd "$(dirname "$0")/.." || exit 2
-library=target/staticlib/libcapi.a
+library=crates/capi/out/libcapi.a
 NATIVE_DATA=$(cd "${NATIVE_DATA:-crates/stored/data}" && pwd) || exit 2
 export NATIVE_DATA
 
@@ -65,7 +65,7 @@ rust_tests() {
 
 # rt proves only what has changed, so this is quick where the library is up to date
 library() {
-    rt staticlib capi >"$work/staticlib" 2>&1 && [ -f "$library" ] || { tail -n 20 "$work/staticlib"; return 1; }
+    rt lib capi >"$work/staticlib" 2>&1 && [ -f "$library" ] || { tail -n 20 "$work/staticlib"; return 1; }
 }
 
 # c_program SOURCE OPTION..: built in the work folder, without a warning, over the static library

@@ -3,7 +3,7 @@
  * answer as include/joshkamber.h says. The areas are malloced, or lie against a page that may not be touched: the library itself is not built for the
  * sanitisers.
  *
- *    cc -g -fsanitize=address,undefined -I include tests/watching.c target/staticlib/libcapi.a -o watching && ./watching
+ *    cc -g -fsanitize=address,undefined -I include tests/watching.c crates/capi/out/libcapi.a -o watching && ./watching
  *
  * The last line counts what was met; the exit status is 0 only if all of it held.
  */
