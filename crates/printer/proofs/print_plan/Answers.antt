@@ -1,0 +1,15 @@
+-- `print_plan` meets its contract: one pass counts the bytes, and a second one writes them where they fit. Assumes nothing.
+use Rattle.writing.proofs.WritingLaws.{prints_short, prints_bytes}
+use Rattle.printer.specs.PlanBytes.{plan_bytes}
+use Rattle.printer.proofs.print_plan.Goals as goal
+
+pub returns-in_default : goal.returns-in_default
+returns-in_default c =
+    let a = c.args in
+    prints_short (plan_bytes a.text.now a.names a.pairs.now a.train_of_order.now a.times.now a.rounds) a.out.now c.plan_lines-end.ensures c.in_default.is
+
+pub returns : goal.returns
+returns c =
+    let a = c.args in
+    prints_bytes (plan_bytes a.text.now a.names a.pairs.now a.train_of_order.now a.times.now a.rounds) a.out.now c.plan_lines-end.ensures
+    c.in-At.length c.in-At.is c.plan_lines.ensures
