@@ -1,8 +1,8 @@
 -- `lowering::lateness::lateness_on` meets its contract: within these bounds the machine's difference and product are those of the integers. Assumes
 -- nothing.
-use borrow.Author.Rules.{rules}
+-- the machine's difference and product, as the definition has them
 use mathlib.Core.Path.{◌≡◌, ap, ◌∙◌}
-use Prim.Native.Nat.{ℕ, ◌*◌, ◌≤◌, ◌<◌, ◌^◌}
+use Prim.Native.Nat.{ℕ, ◌≤◌, ◌<◌, ◌^◌}
 use native.Mathlib.Nat.{mul-le-mul}
 use native.Mathlib.Omega.{arith}
 use lib.IntN.{pos, sub_ℕ, ◌-ℤ◌, ◌*ℤ◌}
@@ -13,10 +13,8 @@ use Rattle.numbers.specs.SignedLaws.{pos_sub, sub_size}
 use Rattle.model.specs.Lateness.{lateness}
 use Rattle.model.proofs.LatenessLaws.{lateness_size}
 use Rattle.lowering.proofs.LoweringStepLaws.{small_fits}
-use Rattle.lowering.proofs.lateness.lateness_on.Statement.{statement}
-use Rattle.lowering.proofs.lateness.lateness_on.Tie as tie
+use Rattle.lowering.proofs.lateness.lateness_on.Goals as goal
 
--- the machine's difference and product, as the definition has them
 module _ (w f d : ℕ) (h : (w ≤ 1000) × (f ≤ 160000) × (d ≤ 100000)) where
   read : (n : ℕ) → n ≤ 160000 → to_z w64 n ≡ pos n
   read n k = let l : n < 2 ^ 63 = omega arith in to_z_pos w64 l
@@ -38,24 +36,10 @@ module _ (w f d : ℕ) (h : (w ≤ 1000) × (f ≤ 160000) × (d ≤ 100000)) wh
   whole : to_z w64 (of_z w64 (to_z w64 w *ℤ to_z w64 (of_z w64 (to_z w64 f -ℤ to_z w64 d)))) ≡ lateness w f d
   whole = to_z-of_z product ∙ computed
 
--- the numbers that the call computes with
-module _ (c : tie.After-of-train) where
-  abbrev w : ℕ
-  w = c.before.args.weight
-
-  abbrev f : ℕ
-  f = c.of-train.result
-
-  abbrev d : ℕ
-  d = c.before.args.due
-
-  bounds : (w ≤ 1000) × (f ≤ 160000) × (d ≤ 100000)
-  bounds = let p = c.before.requires in (p.0.0, omega (arith, c.of-train.ensures, p.1.2), p.0.1)
-
-pub lateness-on-spec : {M : Type 1} → statement M
-lateness-on-spec =
-    tie.close
-    (tie.spec
-    (λ c. search rules) (λ c κs. (c.requires.1.0, c.requires.1.1)) (λ c. search rules) (λ c. search rules)
-    (λ c. difference (w c) (f c) (d c) (bounds c)) (λ c. product (w c) (f c) (d c) (bounds c))
-    (λ c. whole (w c) (f c) (d c) (bounds c) ∙ ap (λ (v : ℕ). lateness (w c) v (d c)) c.of-train.ensures))
+pub returns : goal.returns
+returns c =
+    let a = c.args in
+    let p = c.requires in
+    let f = c.of_train.result in
+    whole a.weight f a.due (p.weight_le_most.0, omega (arith, c.of_train.ensures, p.le_i.2), p.weight_le_most.1)
+    ∙ ap (λ (v : ℕ). lateness a.weight v a.due) c.of_train.ensures
