@@ -1,5 +1,5 @@
 -- Laws by which code is shown to test the rules of a schedule, and to find its pair. Assumes nothing.
-use Rattle.std.specs.Prelude.{◌≡◌, refl, Bool, true, ◌&&◌, ◌||◌, List, ℕ, suc, ◌+◌, ◌-◌, ◌≤◌, ◌<◌, eqb, length, take}
+use Rattle.std.specs.Prelude.{◌≡◌, refl, Bool, true, ◌&&◌, ◌||◌, List, ℕ, zero, suc, ◌+◌, ◌-◌, ◌≤◌, ◌<◌, eqb, length, take}
 use Rattle.std.proofs.Common.{sym, ◌∙◌, add-one, arith, length-take-le, get_or-take, eq-eqb, ne_eqb}
 use Rattle.std.proofs.Math.Path.{ap}
 use Rattle.std.proofs.Math.Dec.{leb}
@@ -35,6 +35,7 @@ room_more capacity train n i = rw (every_more, nth_at capacity i) (simp add-one)
 pub spaced_more : (gap : ℕ) (departure : List ℕ) (i : ℕ) → 1 ≤ i
     → (leb (at departure (i - 1) + gap) (at departure i) && every (λ m. leb (nth departure (suc m) + gap) (nth departure (suc (suc m)))) (i - 1))
     ≡ every (λ m. leb (nth departure (suc m) + gap) (nth departure (suc (suc m)))) (i + 1 - 1)
+spaced_more gap departure zero l = absurd (omega arith)
 spaced_more gap departure (suc i) l =
     let e : suc i - 1 ≡ i = omega arith in
     let f : suc i + 1 - 1 ≡ i + 1 = omega arith in
