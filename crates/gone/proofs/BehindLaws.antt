@@ -1,5 +1,5 @@
 -- The columns behind gone trains are the outset behind them, and a search can set out from there. Assumes nothing.
-use Rattle.std.specs.Prelude.{◌≡◌, ◌⊎◌, true, cond, List, ℕ, zero, suc, ◌-◌, ◌≤◌, ◌<◌, eqb, length, take, replicate}
+use Rattle.std.specs.Prelude.{◌≡◌, ◌⊎◌, true, cond, List, ℕ, zero, suc, ◌≤◌, ◌<◌, eqb, length, take, replicate}
 use Rattle.std.proofs.Common.{sym, ap, ◌∙◌, inl, inr, arith, ext_get_or, get_or-take, length-take-le}
 use Rattle.std.proofs.lemmas.List.{get_or-replicate}
 use Rattle.numbers.specs.Counting.{at, count}
