@@ -28,7 +28,7 @@ use Rattle.rounds.specs.Told.{ChoiceTold}
 use Rattle.front.proofs.Front.{ChosenListed, chosen_plan, chosen_booked, chosen_empty_trains, chosen_prompt, chosen_listed, chosen_best}
 use Rattle.front.proofs.Front.{no_schedule_chosen, wish_too_early}
 use Rattle.planner.specs.InAreas.{plan_in}
-use Rattle.room.proofs.CallLaws.{passes, told_first, told_then}
+use Rattle.room.proofs.CallLaws.{told_first, told_then}
 use Rattle.planner.specs.Choosing.{Gives, ChoosingCall}
 use Rattle.planner.proofs.AnsweredCallLaws.{Chooses, choice_past_tests, chooses_so, plan_so, pair_so, entry_so, plan_left_as_found}
 

@@ -19,7 +19,7 @@ use Rattle.rounds.proofs.AnswerLaws.{Answered, no_schedule, listing, answered}
 use Rattle.rounds.specs.Told.{ListTold}
 use Rattle.rounds.specs.ListedPairs.{Front}
 use Rattle.front.proofs.Front.{listed_is_front, front_is_listed, list_within}
-use Rattle.room.proofs.CallLaws.{passes, told_first, told_then}
+use Rattle.room.proofs.CallLaws.{told_first, told_then}
 use Rattle.planner.specs.Listing.{ListingCall}
 use Rattle.planner.proofs.AnsweredCallLaws.{Lists, list_past_tests, lists_so, list_left_as_found}
 
