@@ -213,6 +213,16 @@ column_told n trains n_most rows e =
 
 -- ---- test 12: a row for each order
 
+abbrev pub ColumnFits : (n q : ℕ) (g : Given) → Type 0
+ColumnFits n q = ColumnIn n (1 – q)
+
+pub fits_on_a_train : (n q : ℕ) (g : Given) → n ≤ most_orders → column_fits n q g ≡ true → (j : ℕ) → j < n → Inside (1 – q) (at g.train j)
+fits_on_a_train n q g most e j h = train_inside n (1 – q) g most e j h
+
+pub fits_told : (n q : ℕ) → n ≤ most_orders → (rows : List Row) → column_fits n q (gathered rows (length rows)) ≡ true
+    → take n (gathered rows (length rows)).train ≡ trains_told n rows
+fits_told n q most rows e = column_told n (1 – q) most rows e
+
 module _ (n q : ℕ) (n_most : n ≤ most_orders) (q_most : q ≤ most_trains) (rows : List Row) where
   -- the column of clear rows for each order
   clear_fits : Clear n q rows n → ColumnIn n (1 – q) (gathered rows n)

@@ -34,6 +34,10 @@ abbrev pub place_in : Range → Bool → (train : ℕ) → Bool
 place_in trains true train = inside trains train
 place_in trains false train = eqb train 0
 
+-- an order that is on the sheet has one of q trains, and one that is not has none
+abbrev pub place_fits : (q : ℕ) → Bool → (train : ℕ) → Bool
+place_fits q = place_in (1 – q)
+
 -- sound rows that give each of n orders a train in this range, and no other order any
 unfoldable pub column_in : (n : ℕ) → Range → Given → Bool
 unfolding every

@@ -11,7 +11,7 @@ use foreign::Given;
 use foreign::fit::{column_of, within};
 use model::Sheet;
 use model::limits::MOST_TRAINS;
-use rules::departures::are_allowed;
+use rules::departures::first_are_allowed;
 use rules::{are_released, have_room};
 
 // Whether trains have gone well by this minute: as the departures and the gathered rows say, by the rules, and one train at least remains.
@@ -35,7 +35,7 @@ pub fn went_well(sheet: Sheet, departures: &[u32], given: Given, minute: u32) ->
     let release = sheet.release;
     let room = have_room(n, gone, capacity, train);
     let released = are_released(n, release, train, departure);
-    let allowed = are_allowed(sheet, gone, departure);
+    let allowed = first_are_allowed(sheet, gone, departure);
     let left = none_above(gone, departure, [minute; MOST_TRAINS]);
     room & released & allowed & left
 }

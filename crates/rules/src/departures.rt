@@ -66,8 +66,16 @@ fn are_fixed(q: usize, fixed: [u32; MOST_TRAINS], departure: [u32; MOST_TRAINS])
     none_above(q, departure, fixed) & none_above(q, fixed, departure)
 }
 
-// Whether the departures of the first q trains are allowed, by the sheet's form.
-pub fn are_allowed(sheet: Sheet, q: usize, departure: [u32; MOST_TRAINS]) -> bool
+// Whether the departures are allowed, by the sheet's form.
+pub fn are_allowed(sheet: Sheet, departure: [u32; MOST_TRAINS]) -> bool
+    requires { Admitted (sheet_of sheet) }
+    ensures { result ≡ allowed (sheet_of sheet).paths sheet.train_count (nth departure) }
+{
+    first_are_allowed(sheet, sheet.train_count, departure)
+}
+
+// Whether the departures of the first q trains are.
+pub fn first_are_allowed(sheet: Sheet, q: usize, departure: [u32; MOST_TRAINS]) -> bool
     requires { Admitted (sheet_of sheet) × (q ≤ train_counts.most) }
     ensures { result ≡ allowed (sheet_of sheet).paths q (nth departure) }
 {

@@ -85,6 +85,6 @@ pub fn is_schedule(sheet: Sheet, train: [u8; MOST_ORDERS], departure: [u32; MOST
     let release = sheet.release;
     let room = have_room(n, sheet.train_count, capacity, train);
     let released = are_released(n, release, train, departure);
-    let allowed = are_allowed(sheet, sheet.train_count, departure);
+    let allowed = are_allowed(sheet, departure);
     room & released & allowed
 }

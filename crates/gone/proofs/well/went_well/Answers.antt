@@ -30,7 +30,7 @@ returns-clause-is c rows e =
     let a = c.args in
     well_given (sheet_of a.sheet) c.requires.few.orders c.requires.few.trains a.departures.now rows a.minute (omega arith) a.given e
     (sym c.if-not-within.ensures) c.column_of-departure.result c.column_of-departure.ensures _ _ _ _ c.have_room-room.ensures
-    c.are_released-released.ensures c.are_allowed-allowed.ensures c.none_above-left.ensures
+    c.are_released-released.ensures c.first_are_allowed-allowed.ensures c.none_above-left.ensures
 
 pub returns-clause-gathered : goal.returns-clause-gathered
 returns-clause-gathered c u =
