@@ -1,3 +1,2 @@
 // No code: counting words and their laws stand in specs/.
 #![tactic(auto)]
-

@@ -32,7 +32,7 @@ pub fn round_from(mut progress: Progress, sheet: Sheet, outset: Outset) -> Progr
         &latest,
         before,
     );
-    let timed = timing::time_trains(sheet, train, since);
+    let timed = timing::time_trains_since(sheet, train, since);
     progress.better = false;
     progress.rounds = progress.rounds + 1;
     progress.ended = true;

@@ -14,7 +14,7 @@ use Rattle.numbers.specs.CountingLaws.{table_length, table_at}
 use Rattle.numbers.specs.ListLaws.{take_replicate}
 use Rattle.columns.specs.Columns.{UpTo}
 use Rattle.columns.proofs.ColumnLaws.{nth_at}
-use Rattle.model.specs.Sheet.{Windows, windows, timetable}
+use Rattle.model.specs.Sheet.{Windows, windows, timetable, Sheet}
 use Rattle.model.specs.Arrival.{arrival_behind, arrival}
 use Rattle.model.proofs.ArrivalLaws.{arrival_first, arrival_next}
 use Rattle.model.specs.Limits.{last_instant, train_counts}
@@ -25,6 +25,7 @@ use Rattle.rounds.proofs.TimingLaws.{FirstWindow, all_over, first_is, first_wind
 use Rattle.rounds.specs.Timing.{awaited, first_window, earliest, none, departed, leave, next_departure, departures}
 use Rattle.rounds.specs.Timing.{arrive, on_timetable, stopped, timed, timing}
 use Rattle.rounds.proofs.SameOutsetLaws.{timing_same}
+use Rattle.rounds.specs.Rounds.{times}
 use Rattle.timing.specs.Timed.{never, departed_in, times_since, WindowsOver, HaveLeft}
 use Rattle.timing.specs.declared.Leaving.{Leaving}
 
@@ -315,3 +316,15 @@ pub arrived_by_form : (m : memory.Sheet) (departure arrivals : List ℕ) (form :
     → take m.train_count arrivals ≡ row (arrival (sheet_of m).paths (nth departure)) m.train_count
 arrived_by_form m departure arrivals form is e =
     e ∙ ap (λ (form : Form). row (arrival (paths_by form m) (nth departure)) m.train_count) (sym is)
+
+-- ---- no instant of its own
+
+-- a column of noughts has 0 at every place, and beyond its end
+noughts : (k j : ℕ) → at (replicate k 0) j ≡ 0
+noughts zero j = refl
+noughts (suc k) zero = refl
+noughts (suc k) (suc j) = noughts k j
+
+-- trains that have no instant of their own to wait for
+pub since_none : (s : Sheet) (train : List ℕ) → times_since s (nth (replicate 32 0)) train ≡ times s train
+since_none s train = λ k. times_since s (λ i. noughts 32 (i - 1) k) train

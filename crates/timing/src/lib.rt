@@ -8,6 +8,7 @@ ghost use Rattle.model.specs.Arrival.{arrival as arrival_of, arrival_behind};
 ghost use Rattle.model.specs.Limits.{last_instant, train_counts, order_counts, gap_range, running_range};
 ghost use Rattle.model.specs.Admission.{Admitted};
 ghost use Rattle.rounds.specs.Timing.{awaited, departures as departures-of};
+ghost use Rattle.rounds.specs.Rounds.{times as times_of};
 ghost use Rattle.columns.specs.Columns.{UpTo, Loaded};
 ghost use Rattle.timing.specs.Timed.{OnTrains, never, departed_in, timed_in, times_since};
 
@@ -130,8 +131,16 @@ pub fn arrive(sheet: Sheet, departure: [u32; MOST_TRAINS]) -> [u32; MOST_TRAINS]
     }
 }
 
+// The times of the trains that carry these orders, by the sheet's form.
+pub fn time_trains(sheet: Sheet, train: [u8; MOST_ORDERS]) -> Times
+    requires { Admitted (sheet_of sheet) × Loaded (sheet_of sheet) train }
+    ensures { timed_in sheet.train_count result ≡ times_of (sheet_of sheet) (take sheet.order_count train) }
+{
+    time_trains_since(sheet, train, [0; MOST_TRAINS])
+}
+
 // The times of the trains that carry these orders and leave no earlier than `since`, by the sheet's form.
-pub fn time_trains(sheet: Sheet, train: [u8; MOST_ORDERS], since: [u32; MOST_TRAINS]) -> Times
+pub fn time_trains_since(sheet: Sheet, train: [u8; MOST_ORDERS], since: [u32; MOST_TRAINS]) -> Times
     requires { Admitted (sheet_of sheet) × Loaded (sheet_of sheet) train }
     ensures { timed_in sheet.train_count result ≡ times_since (sheet_of sheet) (nth since) (take sheet.order_count train) }
 {

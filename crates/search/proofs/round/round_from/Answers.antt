@@ -71,8 +71,8 @@ module _ (m : sheet.Sheet) (o : memory.Outset) (p : Progress) (admitted : Admitt
 pub load-train-requires : goal.load-train-requires
 load-train-requires c = to_load c.args.sheet c.args.outset c.args.progress c.requires.admitted c.requires.ended_value.1
 
-pub time_trains-timed-requires : goal.time_trains-timed-requires
-time_trains-timed-requires c = (
+pub time_trains_since-timed-requires : goal.time_trains_since-timed-requires
+time_trains_since-timed-requires c = (
   c.requires.admitted.0,
   loaded_column (sheet_of c.args.sheet) c.load-train.result
       (rides c.args.sheet c.args.outset c.args.progress c.requires.admitted c.requires.ended_value.1 c.load-train.result c.load-train.ensures),
@@ -93,9 +93,9 @@ worst_of-worst-requires c =
     let b = c.requires.ended_value.1 in (
       a.complete.orders,
       in_ranges m a,
-      arrives m a c.load-train.result c.time_trains-timed.result.arrival
+      arrives m a c.load-train.result c.time_trains_since-timed.result.arrival
           (loaded_column (sheet_of m) c.load-train.result (rides c.args.sheet c.args.outset c.args.progress c.requires.admitted b c.load-train.result c.load-train.ensures))
-          (in_time c.args.sheet c.args.outset c.args.progress c.requires.admitted b c.load-train.result c.load-train.ensures c.time_trains-timed.result c.time_trains-timed.ensures
+          (in_time c.args.sheet c.args.outset c.args.progress c.requires.admitted b c.load-train.result c.load-train.ensures c.time_trains_since-timed.result c.time_trains_since-timed.ensures
           c.if-timed.true),
     )
 
@@ -105,8 +105,8 @@ lower-lowered-requires c =
     let a = c.requires.admitted.0 in
     let b = c.requires.ended_value.1 in (
       in_ranges m a,
-      arrives_to m a c.time_trains-timed.result.arrival c.args.progress.latest
-          (in_time c.args.sheet c.args.outset c.args.progress c.requires.admitted b c.load-train.result c.load-train.ensures c.time_trains-timed.result c.time_trains-timed.ensures
+      arrives_to m a c.time_trains_since-timed.result.arrival c.args.progress.latest
+          (in_time c.args.sheet c.args.outset c.args.progress c.requires.admitted b c.load-train.result c.load-train.ensures c.time_trains_since-timed.result c.time_trains_since-timed.ensures
           c.if-timed.true)
           b.latest,
     )
@@ -124,7 +124,7 @@ returns-after-worst-progress-clause-is c =
     let a = c.requires.admitted.0 in
     let b = c.requires.ended_value.1 in
     let p = c.args.progress in
-    let its = c.time_trains-timed.result in
+    let its = c.time_trains_since-timed.result in
     let train = c.load-train.result in
     -- its worst lateness and the limit are compared as they are
     let fits : SFits w64 p.limit = search rules in
@@ -149,7 +149,7 @@ returns-after-worst-progress-clause-is c =
     let lowered = rw (to_z-of_z {w = w64} left) at c.lower-lowered.ensures
     ∙ lower_taken (at m.weight) (at m.due) its.arrival c.if-worst-progress.progress.limit latest m.train_count m.order_count low in
     round_made (sheet_of m) (outset_of m.order_count c.args.outset) p _ c.requires.ended_value.0 graded.0 b.latest c.load-train.ensures
-    (made m c.args.outset p c.requires.admitted b train c.load-train.ensures its c.time_trains-timed.ensures c.if-timed.true) graded.1
+    (made m c.args.outset p c.requires.admitted b train c.load-train.ensures its c.time_trains_since-timed.ensures c.if-timed.true) graded.1
     (lowered, c.is_crowded.ensures)
 
 pub returns-else-timed-clause-is : goal.returns-else-timed-clause-is
@@ -157,5 +157,5 @@ returns-else-timed-clause-is c =
     let b = c.requires.ended_value.1 in
     round_stopped (sheet_of c.args.sheet) (outset_of c.args.sheet.order_count c.args.outset) c.args.progress _ c.requires.ended_value.0 refl
     b.orderly
-    (rw c.if-timed.false at (timings c.args.sheet c.args.outset c.args.progress c.requires.admitted b c.load-train.result c.load-train.ensures c.time_trains-timed.result c.time_trains-timed.ensures))
+    (rw c.if-timed.false at (timings c.args.sheet c.args.outset c.args.progress c.requires.admitted b c.load-train.result c.load-train.ensures c.time_trains_since-timed.result c.time_trains_since-timed.ensures))
     refl refl refl
