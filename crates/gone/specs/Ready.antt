@@ -1,6 +1,6 @@
 -- What a search behind gone trains sets out from, or why there is none.
 use Rattle.std.specs.Prelude.{◌≡◌, cond}
-use Rattle.model.specs.Sheet.{Sheet, places}
+use Rattle.model.specs.Sheet.{Sheet}
 use Rattle.model.specs.Memory.{sheet_of}
 use Rattle.model.specs.Gone.{Gone, went_well}
 use Rattle.model.specs.declared.Admission.{Admission}
