@@ -1,5 +1,6 @@
 -- How many bytes lines have at most, where every number of a plan is below 1,000,000,000 and a refusal's is one of 64 bits. Assumes nothing.
-use Rattle.std.specs.Prelude.{◌≡◌, refl, Bool, true, false, List, [], ◌∷◌, ℕ, zero, suc, ◌+◌, ◌*◌, ◌/◌, ◌%◌, ◌^◌, ◌≤◌, ◌<◌, ltb, ℤ, pos, negsuc, nat_abs, length, get_or}
+use Rattle.std.specs.Prelude.{◌≡◌, refl, Bool, true, false, List, [], ◌∷◌, ℕ, zero, suc, ◌+◌}
+use Rattle.std.specs.Prelude.{◌*◌, ◌/◌, ◌%◌, ◌^◌, ◌≤◌, ◌<◌, ltb, ℤ, pos, negsuc, nat_abs, length, get_or}
 use Rattle.std.proofs.Common.{pow-suc, arith, length-append, length-take, ltb-true, ltb-false}
 use Rattle.model.specs.Limits.{numbers_a_pair, numbers_a_train}
 use Rattle.model.specs.Refusal.{number, returned}

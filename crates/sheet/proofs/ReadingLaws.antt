@@ -85,7 +85,8 @@ module _ (form : Form) where
 
   module _ (text : List ℕ) where
     same_turn : (n p line : ℕ) (s : SheetLines) (x : LineAt) → line_at text p line ≡ x
-        → ((l : Line) (next : ℕ) → p < next → read_lines form (suc n) text next (line + 1) (with_line s l) ≡ read_lines form n text next (line + 1) (with_line s l))
+        → ((l : Line) (next : ℕ) → p < next → read_lines form (suc n) text next (line + 1) (with_line s l) ≡ read_lines form n text next (line + 1)
+        (with_line s l))
         → on_line x (λ l next. on_admission (line_fault form line s l) (read_lines form (suc n) text next (line + 1) (with_line s l)))
         ≡ on_line x (λ l next. on_admission (line_fault form line s l) (read_lines form n text next (line + 1) (with_line s l)))
     same_turn n p line s (L.Read l next) e k = ap (on_admission (line_fault form line s l)) (k l next (subst (Sound text p line) e (line_sound text p line)).0)

@@ -14,7 +14,8 @@ use Rattle.sheet.proofs.TextLaws.{text_good}
 use Rattle.fields.specs.declared.NamePlaces.{NamePlaces}
 use Rattle.gather.specs.declared.SheetLines.{SheetLines}
 
-pub refused_sheet : (form : Form) (text : List ℕ) (r : Refusal) → (reading form text).admission ≡ Refused r → (reading form text).sheet ≡ sheet_from form no_lines
+pub refused_sheet : (form : Form) (text : List ℕ) (r : Refusal) → (reading form text).admission ≡ Refused r → (reading form text).sheet ≡
+    sheet_from form no_lines
 unfolding reading
 refused_sheet form text r e = ap (sheet_from form) ((text_good form text 0).empty r e)
 

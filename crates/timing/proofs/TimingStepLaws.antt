@@ -232,7 +232,11 @@ module _ (g : ℕ) (p : ℕ → ℕ) where
       go : (k : ℕ) → k ≤ q → row (arrival_behind g p (nth departure)) k ≡ row (arrival_behind g p (nth (take q departure))) k
       go zero h = refl
       go (suc k) h =
-          rw (go k (omega arith), arrival_same (nth departure) (nth (take q departure)) (suc k) (λ m a b. sym (get_or-take q departure (m - 1) 0 (omega arith))))
+          rw (
+            go k (omega arith),
+            arrival_same (nth departure) (nth (take q departure)) (suc k) (λ m a b. sym (get_or-take q departure (m - 1) 0
+                (omega arith))),
+          )
 
 module _ (g : ℕ) (running departure : List ℕ) where
   abbrev arrives : ℕ → ℕ

@@ -5,7 +5,8 @@ use Rattle.layout.specs.Lines.{pair_lines}
 use Rattle.layout.proofs.pair_lines.Given as goal
 
 abbrev pub invariant-loop-i : goal.invariant-loop-i
-invariant-loop-i l = (l.i ≤ l.count) × (length l.out ≡ length l.initial.out) × (state l.behind l.out ≡ pass l.writing (pair_lines l.pairs l.i) (state l.initial.behind l.initial.out))
+invariant-loop-i l = (l.i ≤ l.count) × (length l.out ≡ length l.initial.out)
+    × (state l.behind l.out ≡ pass l.writing (pair_lines l.pairs l.i) (state l.initial.behind l.initial.out))
 
 abbrev pub decreases-loop-i : goal.decreases-loop-i
 decreases-loop-i l = l.count - l.i

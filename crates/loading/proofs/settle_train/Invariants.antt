@@ -10,7 +10,8 @@ use Rattle.loading.proofs.settle_train.Given as goal
 
 abbrev pub invariant-loop-riders : goal.invariant-loop-riders
 invariant-loop-riders l =
-    Counted l.n l.train l.riders × Unmoved l.n l.i l.initial.train l.train × Stage l.n (at l.release) (nth l.capacity) l.latest l.i l.train × (nth l.capacity l.i ≡ l.places)
+    Counted l.n l.train l.riders × Unmoved l.n l.i l.initial.train l.train × Stage l.n (at l.release) (nth l.capacity) l.latest l.i l.train
+    × (nth l.capacity l.i ≡ l.places)
     × ((j : ℕ) → j < l.n → at l.train j ≡ 0 → 1 ≤ at l.latest j → (at l.latest j ≤ l.top) ⊎ (l.i ≤ l.top))
 
 abbrev pub decreases-loop-riders : goal.decreases-loop-riders

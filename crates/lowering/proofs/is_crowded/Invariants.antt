@@ -8,7 +8,8 @@ use Rattle.lowering.specs.SoFar.{crowded_below}
 use Rattle.lowering.proofs.is_crowded.Given as goal
 
 abbrev pub invariant-loop-i : goal.invariant-loop-i
-invariant-loop-i l = (l.i ≤ l.q) × (l.places ≤ 64 * l.i) × (l.places ≡ K (nth l.capacity) l.i) × (l.crowded ≡ crowded_below l.n (nth l.capacity) (take l.n l.latest) l.i)
+invariant-loop-i l = (l.i ≤ l.q) × (l.places ≤ 64 * l.i) × (l.places ≡ K (nth l.capacity) l.i)
+    × (l.crowded ≡ crowded_below l.n (nth l.capacity) (take l.n l.latest) l.i)
 
 abbrev pub decreases-loop-i : goal.decreases-loop-i
 decreases-loop-i l = l.q - l.i

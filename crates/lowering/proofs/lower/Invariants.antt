@@ -8,7 +8,8 @@ use Rattle.lowering.specs.SoFar.{LoweredFrom}
 use Rattle.lowering.proofs.lower.Given as goal
 
 abbrev pub invariant-loop-n : goal.invariant-loop-n
-invariant-loop-n l = (l.n ≤ l.initial.n) × (length l.latest ≡ 200) × LoweredFrom (at l.weight) (at l.due) (nth l.arrival) l.y l.initial.latest l.initial.n l.n l.latest
+invariant-loop-n l = (l.n ≤ l.initial.n) × (length l.latest ≡ 200)
+    × LoweredFrom (at l.weight) (at l.due) (nth l.arrival) l.y l.initial.latest l.initial.n l.n l.latest
 
 abbrev pub decreases-loop-n : goal.decreases-loop-n
 decreases-loop-n l = l.n

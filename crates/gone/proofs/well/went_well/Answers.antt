@@ -22,8 +22,15 @@ returns-then-not-within-clause-is c rows e =
 pub are_released-released-requires : goal.are_released-released-requires
 are_released-released-requires c =
     let a = c.args in
-    let few = c.requires.few in
-    (few.orders, λ j l. omega (arith, few.trains, within_low a.sheet.order_count (length a.departures.now) a.given few.orders (sym c.if-not-within.ensures) j l))
+    let few = c.requires.few in (
+      few.orders,
+      λ j l. omega (
+        arith,
+        few.trains,
+        within_low a.sheet.order_count (length a.departures.now) a.given few.orders (sym
+            c.if-not-within.ensures) j l,
+      ),
+    )
 
 pub returns-clause-is : goal.returns-clause-is
 returns-clause-is c rows e =

@@ -1,5 +1,6 @@
 -- `search::round::round_from` meets its contract: step 2 stops it, or steps 3 to 5 together are the round. Assumes nothing.
-use Rattle.std.proofs.Common.{◌≡◌, refl, sym, ap, ◌∙◌, subst, Bool, true, cond, List, ℕ, ◌+◌, ◌-◌, ◌≤◌, ◌<◌, take, arith, rules, SFits, w64, to_z-of_z, get_or-take}
+use Rattle.std.proofs.Common.{◌≡◌, refl, sym, ap, ◌∙◌, subst, Bool, true, cond, List, ℕ}
+use Rattle.std.proofs.Common.{◌+◌, ◌-◌, ◌≤◌, ◌<◌, take, arith, rules, SFits, w64, to_z-of_z, get_or-take}
 use Rattle.numbers.specs.Counting.{at, nth}
 use Rattle.model.specs.declared.Sheet as sheet
 use Rattle.model.specs.Memory.{sheet_of}
@@ -94,8 +95,10 @@ worst_of-worst-requires c =
       a.complete.orders,
       in_ranges m a,
       arrives m a c.load-train.result c.time_trains_since-timed.result.arrival
-          (loaded_column (sheet_of m) c.load-train.result (rides c.args.sheet c.args.outset c.args.progress c.requires.admitted b c.load-train.result c.load-train.ensures))
-          (in_time c.args.sheet c.args.outset c.args.progress c.requires.admitted b c.load-train.result c.load-train.ensures c.time_trains_since-timed.result c.time_trains_since-timed.ensures
+          (loaded_column (sheet_of m) c.load-train.result (rides c.args.sheet c.args.outset c.args.progress c.requires.admitted b
+          c.load-train.result c.load-train.ensures))
+          (in_time c.args.sheet c.args.outset c.args.progress c.requires.admitted b c.load-train.result c.load-train.ensures
+          c.time_trains_since-timed.result c.time_trains_since-timed.ensures
           c.if-timed.true),
     )
 
@@ -106,7 +109,8 @@ lower-lowered-requires c =
     let b = c.requires.ended_value.1 in (
       in_ranges m a,
       arrives_to m a c.time_trains_since-timed.result.arrival c.args.progress.latest
-          (in_time c.args.sheet c.args.outset c.args.progress c.requires.admitted b c.load-train.result c.load-train.ensures c.time_trains_since-timed.result c.time_trains_since-timed.ensures
+          (in_time c.args.sheet c.args.outset c.args.progress c.requires.admitted b c.load-train.result c.load-train.ensures
+          c.time_trains_since-timed.result c.time_trains_since-timed.ensures
           c.if-timed.true)
           b.latest,
     )
@@ -139,7 +143,15 @@ returns-after-worst-progress-clause-is c =
     × Graded p c.if-worst-progress.progress (worst (sheet_of m) (take m.order_count train) (nth (take m.train_count its.arrival)))
     (nth (take m.train_count its.arrival) m.train_count) =
     elim c.if-worst-progress.branch [
-      | then-worst-progress w ↦ rw w.progress-is (refl, (sym (rw (same_worst ∙ worst_is, limit_is) at w.if-worst-progress.true), same_worst ∙ worst_is, last_is))
+      | then-worst-progress w ↦ rw w.progress-is (
+        refl,
+        (
+          sym (rw (same_worst ∙ worst_is, limit_is) at w.if-worst-progress.true),
+          same_worst ∙
+              worst_is,
+          last_is,
+        ),
+      )
       | else-worst-progress w ↦ rw w.progress-is (refl, (sym (rw (same_worst ∙ worst_is, limit_is) at w.if-worst-progress.false), refl, refl))
     ] in
     let left : SFits w64 c.if-worst-progress.progress.limit = search rules in
@@ -157,5 +169,6 @@ returns-else-timed-clause-is c =
     let b = c.requires.ended_value.1 in
     round_stopped (sheet_of c.args.sheet) (outset_of c.args.sheet.order_count c.args.outset) c.args.progress _ c.requires.ended_value.0 refl
     b.orderly
-    (rw c.if-timed.false at (timings c.args.sheet c.args.outset c.args.progress c.requires.admitted b c.load-train.result c.load-train.ensures c.time_trains_since-timed.result c.time_trains_since-timed.ensures))
+    (rw c.if-timed.false at (timings c.args.sheet c.args.outset c.args.progress c.requires.admitted b c.load-train.result c.load-train.ensures
+    c.time_trains_since-timed.result c.time_trains_since-timed.ensures))
     refl refl refl
