@@ -37,6 +37,15 @@ SPECIAL = {  # old name: new name, where the plain rule would make two names one
     "Settled-above": "SettledAbove",
     "gone-rounds": "gone_rounds",
     "last-rounds": "last_rounds",
+    # names that an import gives
+    "by-round": "by_round",
+    "chosen-from": "chosen_from",
+    "departures-of": "departures_of",
+    "from-sheet-alone": "from_sheet_alone",
+    "is-schedule-of": "is_schedule_of",
+    "listed-from": "listed_from",
+    "times-of": "times_of",
+    "went-well-of": "went_well_of",
 }
 KEEP = set()
 

@@ -1,6 +1,6 @@
 // Checking a foreign plan. The rows of order and train are a lent list of records, laid out as in C.
 ghost use Rattle.model.specs.Memory.{window_sheet, timetable_sheet};
-ghost use Rattle.foreign.specs.Gathered.{OfRows};
+ghost use Rattle.checker.specs.Checking.{CheckedOf};
 ghost use Rattle.checked.specs.ExportedChecking.{ExportedCheck};
 
 use checked::{Check, check_of};
@@ -14,7 +14,7 @@ fn check_gathered_windows(
     given: Given,
     pairs: &mut [i64],
 ) -> Check
-    ensures { OfRows given
+    ensures { CheckedOf given
         (λ rows. ExportedCheck (window_sheet sheet) departures.now rows result pairs.new pairs.old) }
 {
     let reply = checker::check_gathered_windows(sheet, departures, given, pairs);
@@ -28,7 +28,7 @@ fn check_gathered_timetable(
     given: Given,
     pairs: &mut [i64],
 ) -> Check
-    ensures { OfRows given
+    ensures { CheckedOf given
         (λ rows. ExportedCheck (timetable_sheet sheet) departures.now rows result pairs.new pairs.old) }
 {
     let reply = checker::check_gathered_timetable(sheet, departures, given, pairs);

@@ -1,6 +1,6 @@
 -- THE CONTRACT OF A CHECKING CALL on the sheet s and a foreign plan, rows of departures and rows of order and train, with the reply r, and the pairs area as
 -- left and as found.
-use Rattle.std.specs.Prelude.{◌≡◌, ◌↔◌, ◌⊎◌, Bool, true, List, ℕ, ◌≤◌, ◌<◌, ℤ}
+use Rattle.std.specs.Prelude.{◌≡◌, ◌↔◌, ◌⊎◌, Bool, true, List, ℕ, ◌≤◌, ◌<◌, ℤ, length}
 use Rattle.model.specs.Sheet.{Sheet, places}
 use Rattle.model.specs.Schedule.{Schedule}
 use Rattle.model.specs.Lateness.{Pair, pair_of, pair_at}
@@ -16,6 +16,8 @@ use Rattle.rounds.specs.Checking.{check_to}
 use Rattle.rounds.specs.Told.{CheckTold}
 use Rattle.rounds.specs.ListedPairs.{Front}
 use Rattle.planner.specs.InAreas.{pairs_in}
+use Rattle.foreign.specs.Gathered.{gathered}
+use Rattle.foreign.specs.declared.Given.{Given}
 
 -- what is told of a plan that is a schedule
 pub record SaysYes (r : CheckReply) : Type 0 where
@@ -57,3 +59,7 @@ pub record CheckingCall (s : Sheet) (departure : List ℕ) (rows : List Row) (r 
   -- "A number added later returns 0 and changes nothing lent", as do the others
   pub returns_zero : returned_of (of_check r) ≡ 0
   pub as_found : 1 ≤ number_of (of_check r) → left ≡ found
+
+-- what holds of whatever rows were gathered so
+abbrev pub CheckedOf : Given → (List Row → Type 0) → Type 0
+CheckedOf given P = (rows : List Row) → given ≡ gathered rows (length rows) → P rows

@@ -2,7 +2,7 @@
 ghost use Rattle.std.specs.Prelude.{◌≡◌};
 ghost use Rattle.model.specs.Memory.{sheet_of};
 ghost use Rattle.model.specs.Admission.{Admitted};
-ghost use Rattle.foreign.specs.Gathered.{OfRows};
+ghost use Rattle.checker.specs.Checking.{CheckedOf};
 ghost use Rattle.checker.specs.Judging.{judged_so};
 
 use foreign::Given;
@@ -21,7 +21,7 @@ pub enum Judgement {
 // Judges a plan of an admitted sheet.
 pub fn judge(sheet: Sheet, departures: &[u32], given: Given) -> Judgement
     requires { Admitted (sheet_of sheet) }
-    ensures { OfRows given (λ rows. result ≡ judged_so (sheet_of sheet) departures.now rows) }
+    ensures { CheckedOf given (λ rows. result ≡ judged_so (sheet_of sheet) departures.now rows) }
 {
     let n = sheet.order_count;
     let q = sheet.train_count;

@@ -5,8 +5,7 @@ mod judging;
 mod listed;
 
 ghost use Rattle.model.specs.Memory.{sheet_of, window_sheet, timetable_sheet};
-ghost use Rattle.foreign.specs.Gathered.{OfRows};
-ghost use Rattle.checker.specs.Checking.{CheckingCall};
+ghost use Rattle.checker.specs.Checking.{CheckingCall, CheckedOf};
 
 use crate::judging::{Judgement, judge};
 use crate::listed::beside;
@@ -16,7 +15,7 @@ use model::{Admission, CheckReply, Row, Sheet, TimetableSheet, WindowSheet};
 
 // Checks a plan whose rows are gathered against a sheet of either form: 4, 5, 2, 6, 7 and 10 as for listing, then 12 and 13, and then the list.
 pub fn check(sheet: Sheet, departures: &[u32], given: Given, pairs: &mut [i64]) -> CheckReply
-    ensures { OfRows given (λ rows. CheckingCall (sheet_of sheet) departures.now rows result pairs.new pairs.old) }
+    ensures { CheckedOf given (λ rows. CheckingCall (sheet_of sheet) departures.now rows result pairs.new pairs.old) }
 {
     let tested = room::for_listing(sheet, pairs.len());
     if let Admission::Refused(refusal) = tested {
@@ -41,7 +40,7 @@ pub fn check_gathered_windows(
     given: Given,
     pairs: &mut [i64],
 ) -> CheckReply
-    ensures { OfRows given (λ rows. CheckingCall (window_sheet sheet) departures.now rows result pairs.new pairs.old) }
+    ensures { CheckedOf given (λ rows. CheckingCall (window_sheet sheet) departures.now rows result pairs.new pairs.old) }
 {
     check(borders::from_windows(sheet), departures, given, pairs)
 }
@@ -53,7 +52,7 @@ pub fn check_gathered_timetable(
     given: Given,
     pairs: &mut [i64],
 ) -> CheckReply
-    ensures { OfRows given (λ rows. CheckingCall (timetable_sheet sheet) departures.now rows result pairs.new pairs.old) }
+    ensures { CheckedOf given (λ rows. CheckingCall (timetable_sheet sheet) departures.now rows result pairs.new pairs.old) }
 {
     check(borders::from_timetable(sheet), departures, given, pairs)
 }

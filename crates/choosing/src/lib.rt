@@ -6,7 +6,7 @@ ghost use Rattle.std.specs.Prelude.{◌≡◌};
 ghost use Rattle.model.specs.Memory.{sheet_of, window_sheet, timetable_sheet};
 ghost use Rattle.model.specs.Admission.{Admitted};
 ghost use Rattle.rounds.specs.SettingOut.{Sets};
-ghost use Rattle.rounds.specs.Answers.{choose_from as chosen-from};
+ghost use Rattle.rounds.specs.Answers.{choose_from as chosen_from};
 ghost use Rattle.rounds.specs.Areas.{PlanRoom};
 ghost use Rattle.rounds.specs.Told.{areas, ChoiceTold};
 ghost use Rattle.search.specs.Setting.{outset_of};
@@ -43,7 +43,7 @@ pub fn choose_from(
 ) -> ChoiceReply
     requires admitted { Admitted (sheet_of sheet) × PlanRoom (sheet_of sheet) (areas train_of_order.old times.old) }
     requires sets { Sets (sheet_of sheet) (outset_of sheet.order_count outset) }
-    ensures { ChoiceTold (sheet_of sheet) (chosen-from (sheet_of sheet) (outset_of sheet.order_count outset) wish) result
+    ensures { ChoiceTold (sheet_of sheet) (chosen_from (sheet_of sheet) (outset_of sheet.order_count outset) wish) result
         (areas train_of_order.new times.new) (areas train_of_order.old times.old) }
 {
     let mut progress = start_from(outset);

@@ -38,7 +38,7 @@ use Rattle.rounds.proofs.ChosenLaws.{choice_best, chosen_so, eleven_chosen, elev
 use Rattle.rounds.proofs.ChoosingLaws.{booked_chosen, empty_chosen, prompt_chosen, eight_chosen, eight_chosen_stops, listed_chosen, last_recorded_chosen}
 use Rattle.rounds.proofs.CheckingLaws.{yes_so, yes_unbeaten, yes_given, twelve_given, thirteen_given, own_plan, own_rows}
 use Rattle.rounds.proofs.ByRoundLaws.{last_plan_so, seen_is, look_leaves, end_is, said_at_end, pairs_at_end, plan_at_end}
-use Rattle.rounds.proofs.ByRoundLaws as by-round
+use Rattle.rounds.proofs.ByRoundLaws as by_round
 use Rattle.rounds.proofs.FinalLaws.{final}
 use Rattle.rounds.proofs.BoundLaws as bounds
 
@@ -196,11 +196,11 @@ look_final s a calls later t = final s a calls later t
 
 -- "A further round after the end changes nothing", so that it says the same again
 pub further_round : (s : Sheet) (calls : Calls) → ¬ (said (search_by s calls) ≡ GoesOn) → search_by s (then_round calls) ≡ search_by s calls
-further_round s calls e = by-round.no_more_rounds s calls _ _ (by-round.ended_so (search_by s calls) e)
+further_round s calls e = by_round.no_more_rounds s calls _ _ (by_round.ended_so (search_by s calls) e)
 
 -- document 02, No. 6: "the round-by-round search ends within the same figure"
 pub end_comes : (s : Sheet) → Admitted s → (calls : Calls) → rounds_bound s ≤ round_calls calls → ¬ (said (search_by s calls) ≡ GoesOn)
-end_comes s a calls l = by-round.end_comes s a calls l
+end_comes s a calls l = by_round.end_comes s a calls l
 
 -- "with the list, last plan and count of the unbroken search, or its 8"
 pub record Unbroken (s : Sheet) (calls : Calls) : Type 0 where

@@ -2,7 +2,7 @@
 ghost use Rattle.std.specs.Prelude.{◌≡◌, true, ◌<◌, length};
 ghost use Rattle.model.specs.Memory.{sheet_of};
 ghost use Rattle.model.specs.Admission.{Admitted};
-ghost use Rattle.model.specs.Gone.{went_well as went-well-of};
+ghost use Rattle.model.specs.Gone.{went_well as went_well_of};
 ghost use Rattle.foreign.specs.Gathered.{OfRows};
 ghost use Rattle.gone.specs.GonePart.{gone_part, Gathered};
 
@@ -17,7 +17,7 @@ use rules::{are_released, have_room};
 // Whether trains have gone well by this minute: as the departures and the gathered rows say, by the rules, and one train at least remains.
 pub fn went_well(sheet: Sheet, departures: &[u32], given: Given, minute: u32) -> bool
     requires { Admitted (sheet_of sheet) }
-    ensures is { OfRows given (λ rows. result ≡ went-well-of (sheet_of sheet) (gone_part departures.now rows minute)) }
+    ensures is { OfRows given (λ rows. result ≡ went_well_of (sheet_of sheet) (gone_part departures.now rows minute)) }
     ensures gathered { result ≡ true → Gathered given }
     ensures remains { result ≡ true → length departures.now < sheet.train_count }
 {

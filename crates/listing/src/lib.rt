@@ -5,7 +5,7 @@ ghost use Rattle.std.specs.Prelude.{◌≡◌};
 ghost use Rattle.model.specs.Memory.{sheet_of, window_sheet, timetable_sheet};
 ghost use Rattle.model.specs.Admission.{Admitted};
 ghost use Rattle.rounds.specs.SettingOut.{Sets};
-ghost use Rattle.rounds.specs.Answers.{list_from as listed-from};
+ghost use Rattle.rounds.specs.Answers.{list_from as listed_from};
 ghost use Rattle.rounds.specs.Areas.{ListRoom};
 ghost use Rattle.rounds.specs.Told.{ListTold};
 ghost use Rattle.search.specs.Setting.{outset_of};
@@ -33,7 +33,7 @@ pub fn list(sheet: Sheet, pairs: &mut [i64]) -> ListReply
 pub fn list_from(sheet: Sheet, outset: Outset, pairs: &mut [i64]) -> ListReply
     requires admitted { Admitted (sheet_of sheet) × ListRoom (sheet_of sheet) pairs.old }
     requires sets { Sets (sheet_of sheet) (outset_of sheet.order_count outset) }
-    ensures { ListTold (listed-from (sheet_of sheet) (outset_of sheet.order_count outset)) result pairs.new pairs.old }
+    ensures { ListTold (listed_from (sheet_of sheet) (outset_of sheet.order_count outset)) result pairs.new pairs.old }
 {
     let mut progress = start_from(outset);
     let mut count: usize = 0;

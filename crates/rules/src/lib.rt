@@ -9,7 +9,7 @@ ghost use Rattle.numbers.specs.Counting.{at, nth, count, every, each};
 ghost use Rattle.model.specs.Memory.{sheet_of};
 ghost use Rattle.model.specs.Limits.{train_counts, order_counts};
 ghost use Rattle.model.specs.Admission.{Admitted};
-ghost use Rattle.model.specs.ScheduleTest.{is_schedule as is-schedule-of};
+ghost use Rattle.model.specs.ScheduleTest.{is_schedule as is_schedule_of};
 ghost use Rattle.columns.specs.Columns.{UpTo, Loaded};
 
 use crate::departures::are_allowed;
@@ -78,7 +78,7 @@ pub fn are_released(
 // Whether the orders, each on a train, and the departures are a schedule.
 pub fn is_schedule(sheet: Sheet, train: [u8; MOST_ORDERS], departure: [u32; MOST_TRAINS]) -> bool
     requires { Admitted (sheet_of sheet) × Loaded (sheet_of sheet) train }
-    ensures { result ≡ is-schedule-of (sheet_of sheet) (take sheet.order_count train) (take sheet.train_count departure) }
+    ensures { result ≡ is_schedule_of (sheet_of sheet) (take sheet.order_count train) (take sheet.train_count departure) }
 {
     let n = sheet.order_count;
     let capacity = sheet.capacity;

@@ -2,7 +2,7 @@
 ghost use Rattle.std.specs.Prelude.{◌≡◌};
 ghost use Rattle.model.specs.Memory.{sheet_of};
 ghost use Rattle.model.specs.Admission.{Admitted};
-ghost use Rattle.rounds.specs.Outset.{ordinary as from-sheet-alone};
+ghost use Rattle.rounds.specs.Outset.{ordinary as from_sheet_alone};
 ghost use Rattle.rounds.specs.Rounds.{start};
 ghost use Rattle.search.specs.Setting.{outset_of};
 ghost use Rattle.search.specs.Shows.{Shows, Starts};
@@ -14,7 +14,7 @@ use model::limits::{FIRST_LIMIT, MOST_ORDERS, MOST_TRAINS};
 // The sheet alone: its own places, every order may ride the last train, and no train waits for more than gap, window and releases.
 pub fn ordinary(sheet: Sheet) -> Outset
     requires { Admitted (sheet_of sheet) }
-    ensures { outset_of sheet.order_count result ≡ from-sheet-alone (sheet_of sheet) }
+    ensures { outset_of sheet.order_count result ≡ from_sheet_alone (sheet_of sheet) }
 {
     let trains = sheet.train_count as u8;
     let capacity = sheet.capacity;

@@ -7,7 +7,7 @@ ghost use Rattle.model.specs.Memory.{windows_of, sheet_of};
 ghost use Rattle.model.specs.Arrival.{arrival as arrival_of, arrival_behind};
 ghost use Rattle.model.specs.Limits.{last_instant, train_counts, order_counts, gap_range, running_range};
 ghost use Rattle.model.specs.Admission.{Admitted};
-ghost use Rattle.rounds.specs.Timing.{awaited, departures as departures-of};
+ghost use Rattle.rounds.specs.Timing.{awaited, departures as departures_of};
 ghost use Rattle.rounds.specs.Rounds.{times as times_of};
 ghost use Rattle.columns.specs.Columns.{UpTo, Loaded};
 ghost use Rattle.timing.specs.Timed.{OnTrains, never, departed_in, timed_in, times_since};
@@ -59,7 +59,7 @@ fn releases(
 // Train i + 1 awaits instant t. A window that is over for one train is over for those behind it, so each turn passes a window or lets a train leave.
 fn find_departures(sheet: Sheet, released: [u32; MOST_TRAINS]) -> Leaving
     requires { Admitted (sheet_of sheet) × (sheet.form ≡ Form.Windows) }
-    ensures is { departed_in sheet.train_count result ≡ departures-of (windows_of sheet) (nth released) sheet.train_count }
+    ensures is { departed_in sheet.train_count result ≡ departures_of (windows_of sheet) (nth released) sheet.train_count }
     ensures in_time { UpTo never train_counts.most result.departure }
 {
     let from = sheet.window_from;
