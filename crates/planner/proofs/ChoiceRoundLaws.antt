@@ -23,7 +23,7 @@ use Rattle.search.specs.Shows.{shown_entry, recorded_by}
 use Rattle.search.proofs.RunLaws.{over_means}
 use Rattle.search.specs.declared.Progress.{Progress}
 use Rattle.planner.specs.Outcome.{choice_so}
-use Rattle.planner.specs.SoFar.{Running, recorded_now, Holds}
+use Rattle.planner.specs.SoFar.{RunningFrom, recorded_now_from, Holds}
 use Rattle.planner.proofs.SoFarLaws.{nothing_held, takes, leaves}
 use Rattle.planner.proofs.RunningLaws.{next_better, next_same}
 
@@ -50,10 +50,10 @@ module _ (s : Sheet) (a : Aim s) (wish : ℕ) where
       record { schedule = schedule_of s a _ _ h.schedule; arrives = h.arrives; arrivals = h.arrivals; pair = h.pair }
 
   -- the plan that a round recorded is a schedule
-  own_plan : (p r : Progress) → recorded_now s o r ≡ record_entry (recorded_now s o p) (shown_entry s r) → EntryPlan s (shown_entry s r)
+  own_plan : (p r : Progress) → recorded_now_from s o r ≡ record_entry (recorded_now_from s o p) (shown_entry s r) → EntryPlan s (shown_entry s r)
   own_plan p r is =
       let e = shown_entry s r in
-      let (before, u) = record_last (recorded_now s o p) e in
+      let (before, u) = record_last (recorded_now_from s o p) e in
       all_new no_entry before e (EntryPlan s) (subst (All no_entry (EntryPlan s)) (is ∙ u) (all_plans r.rounds))
 
   -- of the same entries and the same arrival the same is held
@@ -62,47 +62,48 @@ module _ (s : Sheet) (a : Aim s) (wish : ℕ) where
   held u v h = rw (← u, ← v) h
 
   -- before the first round
-  pub choice_begun : (p : Progress) (found : PlanAreas) → Running s o p → recorded_now s o p ≡ []
-      → Holds s wish (Refused NoSchedule) found found p.last (recorded_now s o p)
+  pub choice_begun : (p : Progress) (found : PlanAreas) → RunningFrom s o p → recorded_now_from s o p ≡ []
+      → Holds s wish (Refused NoSchedule) found found p.last (recorded_now_from s o p)
   unfolding last_entry
   choice_begun p found running none = held (sym (running.last ∙ ap recorded_arrival none)) (sym none) (nothing_held s wish found)
 
-  module _ (p r : Progress) (choice : ChoiceReply) (left found : PlanAreas) (h : Holds s wish choice left found p.last (recorded_now s o p))
+  module _ (p r : Progress) (choice : ChoiceReply) (left found : PlanAreas) (h : Holds s wish choice left found p.last (recorded_now_from s o p))
       (early : p.last ≤ wish) where
     -- a better plan in time, once it is written
-    pub choice_taken : recorded_now s o r ≡ record_entry (recorded_now s o p) (shown_entry s r) → r.last ≤ wish → (trains times : List ℕ)
+    pub choice_taken : recorded_now_from s o r ≡ record_entry (recorded_now_from s o p) (shown_entry s r) → r.last ≤ wish → (trains times : List ℕ)
         → trains ≡ over (shown_entry s r).plan.train left.trains
         → times ≡ over (plan_times s (shown_entry s r).plan) left.times
-        → Holds s wish (Chosen r.last r.limit) (areas trains times) found r.last (recorded_now s o r)
+        → Holds s wish (Chosen r.last r.limit) (areas trains times) found r.last (recorded_now_from s o r)
     choice_taken is timely trains times trains_are times_are =
         rw is
-        (takes s wish choice left found p.last (recorded_now s o p) h early (shown_entry s r) timely (own_plan p r is) (all_plans p.rounds)
+        (takes s wish choice left found p.last (recorded_now_from s o p) h early (shown_entry s r) timely (own_plan p r is) (all_plans p.rounds)
         trains times trains_are times_are)
 
     -- a plan that is not better, or late
-    pub choice_kept : Running s o p → Running s o r → recorded_now s o r ≡ recorded_by s r (recorded_now s o p) → (r.better ≡ false) ⊎ (wish < r.last)
-        → Holds s wish choice left found r.last (recorded_now s o r)
+    pub choice_kept : RunningFrom s o p → RunningFrom s o r → recorded_now_from s o r ≡ recorded_by s r (recorded_now_from s o p)
+        → (r.better ≡ false) ⊎ (wish < r.last)
+        → Holds s wish choice left found r.last (recorded_now_from s o r)
     choice_kept before after records why = go r.better refl why
       where
-        same : r.better ≡ false → Holds s wish choice left found r.last (recorded_now s o r)
+        same : r.better ≡ false → Holds s wish choice left found r.last (recorded_now_from s o r)
         same worse =
             let is = next_same s o p r worse records in
             held (before.last ∙ sym (ap recorded_arrival is) ∙ sym after.last) (sym is) h
 
-        go : (b : Bool) → r.better ≡ b → (r.better ≡ false) ⊎ (wish < r.last) → Holds s wish choice left found r.last (recorded_now s o r)
+        go : (b : Bool) → r.better ≡ b → (r.better ≡ false) ⊎ (wish < r.last) → Holds s wish choice left found r.last (recorded_now_from s o r)
         go b u (inl worse) = same worse
         go false u (inr late) = same u
         go true u (inr late) =
-            rw (next_better s o p r u records) (leaves s wish choice left found p.last (recorded_now s o p) h early (shown_entry s r) late)
+            rw (next_better s o p r u records) (leaves s wish choice left found p.last (recorded_now_from s o p) h early (shown_entry s r) late)
 
   -- AT THE END, or once the pair recorded last is later than the wish, what is told is what the rounds answer
-  pub choice_ended : (p : Progress) (choice : ChoiceReply) (left found : PlanAreas) → Running s o p
-      → Holds s wish choice left found p.last (recorded_now s o p) → (p.ended ≡ true) ⊎ (wish < p.last)
+  pub choice_ended : (p : Progress) (choice : ChoiceReply) (left found : PlanAreas) → RunningFrom s o p
+      → Holds s wish choice left found p.last (recorded_now_from s o p) → (p.ended ≡ true) ⊎ (wish < p.last)
       → ChoiceTold s (choose_from s o wish) (choice_so choice (leb p.last wish)) left found
   choice_ended p choice left found running h over =
       subst (λ (x : Answer Entry). ChoiceTold s x (choice_so choice (leb p.last wish)) left found) (sym (settled over)) h.told
     where
-      settled : (p.ended ≡ true) ⊎ (wish < p.last) → choose_from s o wish ≡ chosen wish (recorded_now s o p)
+      settled : (p.ended ≡ true) ⊎ (wish < p.last) → choose_from s o wish ≡ chosen wish (recorded_now_from s o p)
       settled (inl over) =
-          choice_at_end s a wish p.rounds p.rounds (recorded_now s o p) (over_means s o p (rounds_of s a p.rounds) running over)
+          choice_at_end s a wish p.rounds p.rounds (recorded_now_from s o p) (over_means s o p (rounds_of s a p.rounds) running over)
       settled (inr late) = choice_settled s a wish p.rounds (omega (arith, running.last))

@@ -21,7 +21,7 @@ use Rattle.search.proofs.PartsLaws.{begun_from}
 use Rattle.search.proofs.RunLaws.{nothing_recorded, start_shown, next_shown, more_to_come, over_means}
 use Rattle.search.specs.declared.Progress.{Progress}
 use Rattle.planner.specs.Outcome.{listed_so}
-use Rattle.planner.specs.SoFar.{Running, recorded_now}
+use Rattle.planner.specs.SoFar.{RunningFrom, recorded_now_from}
 
 -- what is told of an answer is told of an equal one
 pub told_as : {A R L : Type 0} {replies : Answer A → R} {leaves : Answer A → L → L} {x x' : Answer A} {r : R} {left found : L} → x ≡ x'
@@ -31,38 +31,40 @@ told_as e t = rw (← e) t
 module _ (s : Sheet) (o : Outset) where
   -- ---- the rounds
 
-  pub begun : (p : Progress) → ShowsFrom s o p (start_from o) → Running s o p × (recorded_now s o p ≡ []) × (p.rounds ≡ 0)
+  pub begun : (p : Progress) → ShowsFrom s o p (start_from o) → RunningFrom s o p × (recorded_now_from s o p ≡ []) × (p.rounds ≡ 0)
   begun p h = let (none, shows) = start_shown s o p h in (shows, nothing_recorded s o p.rounds none, none)
 
-  pub next : (p r : Progress) → Running s o p → MakesFrom s o p r → r.rounds ≡ p.rounds + 1
-      → Running s o r × (recorded_now s o r ≡ recorded_by s r (recorded_now s o p))
+  pub next : (p r : Progress) → RunningFrom s o p → MakesFrom s o p r → r.rounds ≡ p.rounds + 1
+      → RunningFrom s o r × (recorded_now_from s o r ≡ recorded_by s r (recorded_now_from s o p))
   next p r h makes one = next_shown s o p r h makes one
 
   -- what the round recorded
-  pub next_better : (p r : Progress) → r.better ≡ true → recorded_now s o r ≡ recorded_by s r (recorded_now s o p)
-      → recorded_now s o r ≡ record_entry (recorded_now s o p) (shown_entry s r)
+  pub next_better : (p r : Progress) → r.better ≡ true → recorded_now_from s o r ≡ recorded_by s r (recorded_now_from s o p)
+      → recorded_now_from s o r ≡ record_entry (recorded_now_from s o p) (shown_entry s r)
   next_better p r better records = rw better at records
 
-  pub next_same : (p r : Progress) → r.better ≡ false → recorded_now s o r ≡ recorded_by s r (recorded_now s o p) → recorded_now s o r ≡ recorded_now s o p
+  pub next_same : (p r : Progress) → r.better ≡ false → recorded_now_from s o r ≡ recorded_by s r (recorded_now_from s o p)
+      → recorded_now_from s o r ≡ recorded_now_from s o p
   next_same p r worse records = rw worse at records
 
   -- ---- the list
 
   -- before the first round nothing is listed
-  pub list_begun : (p : Progress) (found : List ℤ) → Running s o p → recorded_now s o p ≡ [] → Lists found (held_list 0 p.last found) (recorded_now s o p)
+  pub list_begun : (p : Progress) (found : List ℤ) → RunningFrom s o p → recorded_now_from s o p ≡ []
+      → Lists found (held_list 0 p.last found) (recorded_now_from s o p)
   unfolding listed pair_numbers
   list_begun p found h none =
       record { count_is = rw none refl; last_is = h.last; area_is = rw none refl }
 
   -- a better plan is listed, another is not
   pub list_better : (p r : Progress) (count more : ℕ) (area after found : List ℤ)
-      → recorded_now s o r ≡ record_entry (recorded_now s o p) (shown_entry s r) → Lists found (held_list count p.last area) (recorded_now s o p)
+      → recorded_now_from s o r ≡ record_entry (recorded_now_from s o p) (shown_entry s r) → Lists found (held_list count p.last area) (recorded_now_from s o p)
       → ListsMore (held_list count p.last area) (held_list more r.last after) r.last r.limit
-      → Lists found (held_list more r.last after) (recorded_now s o r)
-  list_better p r count more area after found is h lists = rw is (lists found (recorded_now s o p) (shown_entry s r) refl h)
+      → Lists found (held_list more r.last after) (recorded_now_from s o r)
+  list_better p r count more area after found is h lists = rw is (lists found (recorded_now_from s o p) (shown_entry s r) refl h)
 
-  pub list_same : (p r : Progress) (count : ℕ) (area found : List ℤ) → Running s o r → recorded_now s o r ≡ recorded_now s o p
-      → Lists found (held_list count p.last area) (recorded_now s o p) → Lists found (held_list count r.last area) (recorded_now s o r)
+  pub list_same : (p r : Progress) (count : ℕ) (area found : List ℤ) → RunningFrom s o r → recorded_now_from s o r ≡ recorded_now_from s o p
+      → Lists found (held_list count p.last area) (recorded_now_from s o p) → Lists found (held_list count r.last area) (recorded_now_from s o r)
   list_same p r count area found now is h =
       record { count_is = rw is h.count_is; last_is = now.last; area_is = rw is h.area_is }
 
@@ -83,17 +85,17 @@ module _ (s : Sheet) (a : Aim s) where
   abbrev o : Outset
   o = a.outset
 
-  pub more : (p : Progress) → Running s o p → p.ended ≡ false → p.rounds < rounds_bound s
+  pub more : (p : Progress) → RunningFrom s o p → p.ended ≡ false → p.rounds < rounds_bound s
   more p h on = more_to_come s a p on p.rounds h
 
-  pub can_go_on : (p : Progress) → Running s o p → p.ended ≡ false → BegunFrom s o p
+  pub can_go_on : (p : Progress) → RunningFrom s o p → p.ended ≡ false → BegunFrom s o p
   can_go_on p h on = begun_from s a p (record { made = p.rounds; shows = h }) on
 
   -- WHAT IS TOLD AT THE END is what the rounds list
-  pub list_ended : (p : Progress) (count : ℕ) (area found : List ℤ) → Running s o p → p.ended ≡ true
-      → Lists found (held_list count p.last area) (recorded_now s o p) → ListTold (list_from s o) (listed_so count p.rounds) area found
+  pub list_ended : (p : Progress) (count : ℕ) (area found : List ℤ) → RunningFrom s o p → p.ended ≡ true
+      → Lists found (held_list count p.last area) (recorded_now_from s o p) → ListTold (list_from s o) (listed_so count p.rounds) area found
   unfolding list_from
   list_ended p count area found h over lists =
       let end = over_means s o p (rounds_of s a p.rounds) h over in
-      let end_is_so = search_at_end s a p.rounds p.rounds (recorded_now s o p) end in
-      rw end_is_so (told_listed p.rounds count (recorded_now s o p) p.last area found lists)
+      let end_is_so = search_at_end s a p.rounds p.rounds (recorded_now_from s o p) end in
+      rw end_is_so (told_listed p.rounds count (recorded_now_from s o p) p.last area found lists)

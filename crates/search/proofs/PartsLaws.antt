@@ -22,7 +22,7 @@ use Rattle.rounds.proofs.BoundLaws.{bound_most}
 use Rattle.columns.specs.Columns.{UpTo, Loaded}
 use Rattle.timing.specs.declared.Times.{Times}
 use Rattle.lowering.specs.Ranged.{ArrivesTo}
-use Rattle.search.specs.Shows.{Stands, goes_on, has_ended, BeginsFrom, ReachedFrom, Reached}
+use Rattle.search.specs.Shows.{Stands, goes_on, has_ended, BeginsFromOutset, ReachedFrom, Reached}
 use Rattle.search.specs.Parts.{BegunFrom, Begun}
 use Rattle.search.specs.declared.Progress.{Progress}
 
@@ -59,7 +59,7 @@ module _ (s : Sheet) (o : Outset) (a : Admitted s) (p : Progress) (b : BegunFrom
   few_rounds = omega (arith, b.within, bound_most s a)
 
 -- whether a round can be made, by tests of the latest trains and of the trains
-pub decides_begun : (s : Sheet) (p : Progress) → UpTo s.trains s.orders p.latest → {orderly : Bool} → Decides (BeginsFrom s (ordinary s) p) orderly
+pub decides_begun : (s : Sheet) (p : Progress) → UpTo s.trains s.orders p.latest → {orderly : Bool} → Decides (BeginsFromOutset s (ordinary s) p) orderly
     → (b : Bool) → b ≡ crowded s.orders s.capacity (take s.orders p.latest) s.trains
     → Decides (Begun s p) ((orderly && not b) && ltb p.rounds (rounds_bound s))
 decides_begun s p low o b is =

@@ -17,8 +17,8 @@ use Rattle.rounds.specs.Outset.{Outset}
 use Rattle.rounds.specs.Rounds.{Search, going, ended, recorded_in, loading_from, times_from, settle, grade, depart, round_from}
 use Rattle.columns.specs.Columns.{UpTo}
 use Rattle.loading.proofs.BeginLaws.{orderly_next}
-use Rattle.search.specs.Shows.{Stands, goes_on, has_ended, BeginsFrom, ShowsFrom, shown_entry, recorded_by, RoundMadeFrom, MakesFrom}
-use Rattle.search.specs.Parts.{Graded, Settled}
+use Rattle.search.specs.Shows.{Stands, goes_on, has_ended, BeginsFromOutset, ShowsFrom, shown_entry, recorded_by, RoundMadeFrom, MakesFrom}
+use Rattle.search.specs.Parts.{Graded, SettledFrom}
 use Rattle.search.specs.declared.Progress.{Progress}
 
 -- the progress p goes on, and r is left of it: one round more, and trains that the next may begin from
@@ -48,7 +48,7 @@ module _ (s : Sheet) (o : Outset) (p r : Progress) (on : p.ended ≡ false) (cou
     records : recorded_in search ≡ recorded_by s r recorded
     last : p.last ≡ recorded_arrival recorded → r.last ≡ recorded_arrival (recorded_by s r recorded)
 
-  makes : BeginsFrom s o r → ((recorded : List Entry) → Next recorded) → MakesFrom s o p r
+  makes : BeginsFromOutset s o r → ((recorded : List Entry) → Next recorded) → MakesFrom s o p r
   makes orderly next x h = go x h.stands h
     where
       go : (x : Search) → Stands s.orders p x → ShowsFrom s o p x → RoundMadeFrom s o r x
@@ -65,7 +65,7 @@ module _ (s : Sheet) (o : Outset) (p r : Progress) (on : p.ended ≡ false) (cou
   departs recorded t e = rw e
 
   -- STEP 2 STOPS IT
-  pub round_stopped : BeginsFrom s o r → times_from s o train ≡ stopped → r.better ≡ false → r.last ≡ p.last → r.ended ≡ true → MakesFrom s o p r
+  pub round_stopped : BeginsFromOutset s o r → times_from s o train ≡ stopped → r.better ≡ false → r.last ≡ p.last → r.ended ≡ true → MakesFrom s o p r
   unfolding depart
   round_stopped orderly stops better last over =
       makes orderly (λ recorded.
@@ -108,7 +108,7 @@ module _ (s : Sheet) (o : Outset) (p r : Progress) (on : p.ended ≡ false) (cou
         go false e = e ∙ last_is
 
   -- steps 4 and 5
-  settles : Settled s o p r F → (entries : List Entry) → let x = settle s o made latest r.limit entries F in
+  settles : SettledFrom s o p r F → (entries : List Entry) → let x = settle s o made latest r.limit entries F in
       Stands s.orders r x × (recorded_in x ≡ entries)
   unfolding settle
   settles settled entries = go (crowded s.orders o.capacity now s.trains) (rw settled.0 at settled.1)
@@ -123,7 +123,7 @@ module _ (s : Sheet) (o : Outset) (p r : Progress) (on : p.ended ≡ false) (cou
 
   -- the next loading may begin from the trains of this one, since no latest train has risen
   next_orderly : UpTo s.trains s.orders p.latest → plan.train ≡ train
-      → take s.orders r.latest ≡ lower s.orders s.weight s.due F r.limit latest → BeginsFrom s o r
+      → take s.orders r.latest ≡ lower s.orders s.weight s.due F r.limit latest → BeginsFromOutset s o r
   next_orderly low loads lowered =
       orderly_next s.orders s.trains s.release o.capacity latest r.latest r.train loads
       (λ j l. omega (arith, get_or-take s.orders p.latest j 0 l, low j l))
@@ -138,7 +138,7 @@ module _ (s : Sheet) (o : Outset) (p r : Progress) (on : p.ended ≡ false) (cou
 
   -- OR IT GOES THROUGH ALL STEPS
   pub round_made : UpTo s.trains s.orders p.latest → plan.train ≡ train
-      → times_from s o train ≡ timed plan.departure plan.arrival plan.window → Graded p r z (F s.trains) → Settled s o p r F → MakesFrom s o p r
+      → times_from s o train ≡ timed plan.departure plan.arrival plan.window → Graded p r z (F s.trains) → SettledFrom s o p r F → MakesFrom s o p r
   unfolding depart
   round_made low loads runs graded settled =
       makes (next_orderly low loads settled.0) (λ recorded.

@@ -6,13 +6,13 @@ use Rattle.rounds.specs.Outset.{Outset, ordinary}
 use Rattle.rounds.specs.Lowering.{lower, crowded}
 use Rattle.rounds.specs.RoundsBound.{rounds_bound}
 use Rattle.columns.specs.Columns.{UpTo}
-use Rattle.search.specs.Shows.{BeginsFrom}
+use Rattle.search.specs.Shows.{BeginsFromOutset}
 use Rattle.search.specs.declared.Progress.{Progress}
 
 -- a round can be made from it: each order has a latest train of the sheet, they are not crowded, the trains are orderly, and fewer rounds were made than the
 -- sheet's figure
 pub record BegunFrom (s : Sheet) (o : Outset) (p : Progress) : Type 0 where
-  pub orderly : BeginsFrom s o p
+  pub orderly : BeginsFromOutset s o p
   pub latest : UpTo s.trains s.orders p.latest
   pub uncrowded : crowded s.orders o.capacity (take s.orders p.latest) s.trains ≡ false
   pub within : p.rounds < rounds_bound s
@@ -26,7 +26,11 @@ abbrev pub Graded : (p r : Progress) (z : ℤ) (f : ℕ) → Type 0
 Graded p r z f = (r.better ≡ lt_z z p.limit) × (r.limit ≡ cond r.better z p.limit) × (r.last ≡ cond r.better f p.last)
 
 -- steps 4 and 5, where train i arrives at F i
-abbrev pub Settled : Sheet → Outset → (p r : Progress) (F : ℕ → ℕ) → Type 0
-Settled s o p r F =
+abbrev pub SettledFrom : Sheet → Outset → (p r : Progress) (F : ℕ → ℕ) → Type 0
+SettledFrom s o p r F =
     (take s.orders r.latest ≡ lower s.orders s.weight s.due F r.limit (take s.orders p.latest))
     × (r.ended ≡ crowded s.orders o.capacity (take s.orders r.latest) s.trains)
+
+-- from the sheet alone
+abbrev pub Settled : Sheet → (p r : Progress) (F : ℕ → ℕ) → Type 0
+Settled s = SettledFrom s (ordinary s)

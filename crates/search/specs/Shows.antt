@@ -17,11 +17,15 @@ pub data Stands (n : ℕ) (p : Progress) : Search → Type 0 where
   has_ended : {c : ℕ} {recorded : List Entry} → p.ended ≡ true → p.rounds ≡ c → Stands n p (ended c recorded)
 
 -- its trains are such as the next loading may begin from
-abbrev pub BeginsFrom : Sheet → Outset → Progress → Type 0
-BeginsFrom s o p = Orderly s.orders s.trains s.release o.capacity p.latest p.train
+abbrev pub BeginsFromOutset : Sheet → Outset → Progress → Type 0
+BeginsFromOutset s o p = Orderly s.orders s.trains s.release o.capacity p.latest p.train
+
+-- from the sheet alone
+abbrev pub BeginsFrom : Sheet → Progress → Type 0
+BeginsFrom s = BeginsFromOutset s (ordinary s)
 
 pub record ShowsFrom (s : Sheet) (o : Outset) (p : Progress) (x : Search) : Type 0 where
-  pub orderly : BeginsFrom s o p
+  pub orderly : BeginsFromOutset s o p
   pub stands : Stands s.orders p x
   -- the arrival of the pair recorded last
   pub last : p.last ≡ recorded_arrival (recorded_in x)

@@ -12,7 +12,7 @@ use Rattle.rounds.proofs.AimLaws.{Aim, set_out}
 use Rattle.search.specs.Setting.{outset_of}
 use Rattle.search.specs.declared.Outset as memory
 use Rattle.search.specs.declared.Progress.{Progress}
-use Rattle.planner.specs.SoFar.{Running}
+use Rattle.planner.specs.SoFar.{RunningFrom}
 use Rattle.planner.proofs.ChoiceRoundLaws.{both, not_both, choice_begun, choice_taken, choice_kept, choice_ended}
 use Rattle.planner.proofs.RunningLaws.{begun, more, can_go_on, next, next_better}
 use Rattle.choosing.proofs.choose_from.Goals as goal
@@ -23,7 +23,7 @@ module _ (m : sheet.Sheet) (o : memory.Outset) (a : Admitted (sheet_of m)) (h : 
   aim = set_out (sheet_of m) a (outset_of m.order_count o) h
 
   -- where a round is made, the search goes on, no pair is late yet, and rounds are left
-  within : (p : Progress) (wish : ℕ) → Running (sheet_of m) (outset_of m.order_count o) p → (not p.ended && leb p.last wish) ≡ true
+  within : (p : Progress) (wish : ℕ) → RunningFrom (sheet_of m) (outset_of m.order_count o) p → (not p.ended && leb p.last wish) ≡ true
       → p.rounds < rounds_bound (sheet_of m)
   within p wish running on = more (sheet_of m) aim p running (not_yet p.ended (both p.last wish (not p.ended) on).0)
 

@@ -7,15 +7,16 @@ use Rattle.model.specs.Memory.{sheet_of}
 use Rattle.rounds.specs.RoundsBound.{rounds_bound}
 use Rattle.rounds.specs.Told.{areas}
 use Rattle.search.specs.Setting.{outset_of}
-use Rattle.planner.specs.SoFar.{Running, recorded_now, Holds}
+use Rattle.planner.specs.SoFar.{RunningFrom, recorded_now_from, Holds}
 use Rattle.choosing.proofs.choose_from.Given as goal
 
 abbrev pub invariant-loop-progress : goal.invariant-loop-progress
 invariant-loop-progress l =
     let s = sheet_of l.sheet in
     let o = outset_of s.orders l.outset in
-    Running s o l.progress
-    × Holds s l.wish l.choice (areas l.train_of_order l.times) (areas l.initial.train_of_order l.initial.times) l.progress.last (recorded_now s o l.progress)
+    RunningFrom s o l.progress
+    × Holds s l.wish l.choice (areas l.train_of_order l.times) (areas l.initial.train_of_order l.initial.times) l.progress.last (recorded_now_from
+    s o l.progress)
     × (length l.train_of_order ≡ length l.initial.train_of_order)
     × (length l.times ≡ length l.initial.times)
 

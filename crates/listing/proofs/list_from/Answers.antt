@@ -12,7 +12,7 @@ use Rattle.rounds.proofs.AimLaws.{Aim, set_out}
 use Rattle.search.specs.Setting.{outset_of}
 use Rattle.search.specs.declared.Outset as memory
 use Rattle.search.specs.declared.Progress.{Progress}
-use Rattle.planner.specs.SoFar.{Running}
+use Rattle.planner.specs.SoFar.{RunningFrom}
 use Rattle.planner.proofs.RunningLaws.{begun, more, can_go_on, next, next_better, next_same, list_begun, list_better, list_same, list_ended}
 use Rattle.listing.proofs.list_from.Goals as goal
 
@@ -22,7 +22,7 @@ module _ (m : sheet.Sheet) (o : memory.Outset) (a : Admitted (sheet_of m)) (h : 
   aim = set_out (sheet_of m) a (outset_of m.order_count o) h
 
   -- where a round is made, the search goes on, and rounds are left
-  within : (p : Progress) → Running (sheet_of m) (outset_of m.order_count o) p → p.ended ≡ false → p.rounds < rounds_bound (sheet_of m)
+  within : (p : Progress) → RunningFrom (sheet_of m) (outset_of m.order_count o) p → p.ended ≡ false → p.rounds < rounds_bound (sheet_of m)
   within p running on = more (sheet_of m) aim p running on
 
 pub loop-progress-init : goal.loop-progress-init
