@@ -1,7 +1,5 @@
 -- `fit::column_of` meets its contract: the first i places of the column are the departures passed. Assumes nothing.
-use mathlib.Core.Path.{◌≡◌}
-use Prim.Native.Nat.{◌-◌, ◌≤◌}
-use lib.ListN.{length, take}
+use Rattle.std.proofs.Common.{◌≡◌, ◌-◌, ◌≤◌, length, take}
 use Rattle.model.specs.Limits.{train_counts}
 use Rattle.foreign.proofs.fit.column_of.Given as goal
 

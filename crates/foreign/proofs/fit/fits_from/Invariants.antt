@@ -1,8 +1,5 @@
 -- `fit::fits_from` meets its contract: `fit` is the test of the places passed, and whether the rows are sound. Assumes nothing.
-use mathlib.Core.Path.{◌≡◌}
-use mathlib.Core.Bool.{◌&&◌}
-use Prim.Native.Nat.{◌-◌, ◌≤◌}
-use lib.Dec.{ltb}
+use Rattle.std.proofs.Common.{◌≡◌, ◌&&◌, ◌-◌, ◌≤◌, ltb}
 use Rattle.numbers.specs.Counting.{at, every}
 use Rattle.model.specs.Limits.{◌–◌, order_counts}
 use Rattle.foreign.specs.Gathered.{place_in}

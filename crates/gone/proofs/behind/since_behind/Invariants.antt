@@ -1,7 +1,5 @@
 -- `gone::behind::since_behind` meets its contract: the first i trains have their departures. Assumes nothing.
-use mathlib.Core.Path.{◌≡◌}
-use Prim.Native.Nat.{◌-◌, ◌≤◌}
-use lib.ListN.{length, replicate}
+use Rattle.std.proofs.Common.{◌≡◌, ◌-◌, ◌≤◌, length, replicate}
 use Rattle.numbers.specs.Counting.{at}
 use Rattle.gone.specs.GonePart.{Filled}
 use Rattle.gone.proofs.behind.since_behind.Given as goal
