@@ -1,8 +1,7 @@
 -- Laws of what is printed of a text: each call's part in it, and that all of it is. Assumes nothing.
 use Rattle.std.proofs.Math.Path.{◌≡◌}
 use Rattle.std.specs.Prelude.{refl, Bool, true, false, cond, List, [], ◌∷◌, ℕ, ◌*◌, ◌≤◌, leb, eqb, ℤ, length, take, drop}
-use Rattle.std.proofs.Common.{sym, ap, subst, ◌∙◌, length-append, length-drop, le-leb}
-use native.Mathlib.Omega.{arith}
+use Rattle.std.proofs.Common.{sym, ap, subst, ◌∙◌, arith, length-append, length-drop, le-leb}
 use Rattle.numbers.specs.Counting.{at}
 use Rattle.numbers.specs.Over.{over}
 use Rattle.model.specs.Sheet.{Sheet}
