@@ -1,0 +1,8 @@
+-- `joshkamber_bound_timetable` meets its contract: it tells the library's reply. Assumes nothing.
+use Rattle.model.specs.Memory.{timetable_sheet}
+use Rattle.exported.proofs.ExportedBoundLaws.{exported_bound}
+use Rattle.capi.proofs.bounding.joshkamber_bound_timetable.Goals as goal
+
+pub returns : goal.returns
+returns c =
+    exported_bound (timetable_sheet c.args.sheet) c.bound_timetable-reply.result _ c.bound_timetable-reply.ensures c.bound_of.ensures

@@ -1,0 +1,8 @@
+-- `joshkamber_bound_windows` meets its contract: it tells the library's reply. Assumes nothing.
+use Rattle.model.specs.Memory.{window_sheet}
+use Rattle.exported.proofs.ExportedBoundLaws.{exported_bound}
+use Rattle.capi.proofs.bounding.joshkamber_bound_windows.Goals as goal
+
+pub returns : goal.returns
+returns c =
+    exported_bound (window_sheet c.args.sheet) c.bound_windows-reply.result _ c.bound_windows-reply.ensures c.bound_of.ensures

@@ -1,0 +1,9 @@
+-- `joshkamber_round_timetable` meets its contract: it tells what the library gives. Assumes nothing.
+use Rattle.model.specs.Memory.{timetable_sheet}
+use Rattle.watched.proofs.ExportedWatchingLaws.{exported_round}
+use Rattle.capi.proofs.watching.joshkamber_round_timetable.Goals as goal
+
+pub returns : goal.returns
+returns c =
+    let a = c.args in
+    exported_round (timetable_sheet a.sheet) a.state _ _ c.round_timetable-moved.result _ c.round_timetable-moved.ensures c.round_of.ensures
