@@ -1,4 +1,4 @@
-//! Links the product: libcapi.a, which `rt lib capi` writes. JOSHKAMBER_LIB may name another folder that has it.
+//! Links the product: libcapi.a, which `rt lib` in crates/capi writes. JOSHKAMBER_LIB may name another folder that has it.
 
 fn main() {
     let default = concat!(env!("CARGO_MANIFEST_DIR"), "/../crates/capi/out");

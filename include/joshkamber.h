@@ -1,4 +1,4 @@
-/* Joshkamber's calls for C. Link with libcapi.a, which `rt lib capi` writes to crates/capi/out (x86-64 Linux).
+/* Joshkamber's calls for C. Link with libcapi.a, which `rt lib` in crates/capi writes to crates/capi/out (x86-64 Linux).
  *
  * Every call returns, asks nothing of its arguments but valid memory, and keeps nothing between calls: a search that is moved round by round has
  * its place in a state, which each of its calls gives back and the caller hands to the next. What each call promises is stated and proved in

@@ -65,7 +65,7 @@ rust_tests() {
 
 # rt proves only what has changed, so this is quick where the library is up to date
 library() {
-    rt lib capi >"$work/staticlib" 2>&1 && [ -f "$library" ] || { tail -n 20 "$work/staticlib"; return 1; }
+    (cd crates/capi && rt lib) >"$work/staticlib" 2>&1 && [ -f "$library" ] || { tail -n 20 "$work/staticlib"; return 1; }
 }
 
 # c_program SOURCE OPTION..: built in the work folder, without a warning, over the static library
