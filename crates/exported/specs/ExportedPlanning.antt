@@ -17,7 +17,7 @@ use Rattle.rounds.specs.ChosenPair.{Best, TooEarly}
 use Rattle.rounds.specs.RoundsBound.{rounds_bound}
 use Rattle.rounds.specs.Areas.{ListRoom, list_to, list_reply, PlanAreas, PlanRoom, choose_to, choice_reply}
 use Rattle.rounds.specs.ListedPairs.{Front}
-use Rattle.front.proofs.Front.{ChosenListed}
+use Rattle.front.specs.Chosen.{ChosenListed}
 use Rattle.planner.specs.Listing.{ListingCall}
 use Rattle.planner.specs.Choosing.{ChoosingCall}
 use Rattle.planner.specs.InAreas.{pairs_in, plan_in}

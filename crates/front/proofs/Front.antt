@@ -7,7 +7,7 @@ use Rattle.numbers.specs.Counting.{at, count}
 use Rattle.numbers.specs.DecidesLaws.{test_means}
 use Rattle.model.specs.Sheet.{Sheet, places}
 use Rattle.model.specs.Schedule.{Schedule}
-use Rattle.model.specs.Lateness.{Pair, pair_of, pair_at}
+use Rattle.model.specs.Lateness.{pair_of, pair_at}
 use Rattle.model.specs.Limits.{most_pairs}
 use Rattle.model.specs.Foreign.{RowsFit, trains_told, RowsTell, rows_of}
 use Rattle.model.specs.ShortTrains.{FullSchedule}
@@ -21,10 +21,11 @@ use Rattle.rounds.specs.Timing.{stopped}
 use Rattle.rounds.specs.Recording.{Entry, listed, entry_at, last_entry, recorded_arrival}
 use Rattle.rounds.specs.EntryPlan.{EntryPlan, EntryBooked, EntryEmptyTrains, EntryPrompt}
 use Rattle.rounds.specs.ListedPairs.{Front}
-use Rattle.rounds.specs.ChosenPair.{LastInTime, Best, TooEarly, Unbeaten}
+use Rattle.front.specs.Chosen.{ChosenListed}
+use Rattle.rounds.specs.ChosenPair.{Best, TooEarly, Unbeaten}
 use Rattle.rounds.specs.Rounds.{going, ended, rounds_in, recorded_in, start, loading, first_timing, rounds, recorded_after, search}
 use Rattle.rounds.specs.RoundsBound.{rounds_bound}
-use Rattle.rounds.specs.Answers.{Answer, refused, given, Listing, list, last_arrival_in, last_listed, choose}
+use Rattle.rounds.specs.Answers.{refused, given, Listing, list, last_arrival_in, last_listed, choose}
 use Rattle.rounds.specs.Areas.{list_left, plan_left}
 use Rattle.rounds.specs.Checking.{Verdict, check}
 use Rattle.rounds.specs.ByRound.{SearchAreas, Calls, then_round, then_look, round_calls, Then, search_by, seen, end_of, said, last_plan, areas_by, Final}
@@ -87,15 +88,6 @@ chosen_plan s a wish u = (chosen_so s (whole s a) wish u).plan
 -- document 02, No. 2, "The window of each departure": of a chosen plan too
 pub chosen_booked : (s : Sheet) → Admitted s → (wish : ℕ) {e : Entry} → choose s wish ≡ given e → EntryBooked s e
 chosen_booked s a wish u = booked_chosen s (whole s a) wish u
-
--- "the last listed pair not later than it", of this answer of the first call
-pub record LastListed (x : Answer Listing) (wish : ℕ) (p : Pair) : Type 0 where
-  pub listing : Listing
-  pub is_list : x ≡ given listing
-  pub last : LastInTime wish listing.pairs p
-
-abbrev pub ChosenListed : (s : Sheet) (wish : ℕ) (p : Pair) → Type 0
-ChosenListed s = LastListed (list s)
 
 pub chosen_listed : (s : Sheet) → Admitted s → (wish : ℕ) {e : Entry} → choose s wish ≡ given e → ChosenListed s wish e.pair
 chosen_listed s a wish u = let h = chosen_so s (whole s a) wish u in record { listing = h.listing; is_list = h.is_list; last = h.last }

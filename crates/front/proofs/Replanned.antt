@@ -34,7 +34,7 @@ use Rattle.rounds.proofs.LastRoundLaws as last_rounds
 use Rattle.rounds.proofs.ReplanLaws.{list_eight, list_given, list_through, list_twenty_one}
 use Rattle.rounds.proofs.ReplanLaws.{choice_eight, choice_eleven, choice_given, choice_through, choice_twenty_one, no_places, fits_in}
 use Rattle.rounds.proofs.NothingGoneLaws.{lists_to_as_ever, chooses_to_as_ever}
-use Rattle.front.proofs.Front.{LastListed}
+use Rattle.front.specs.Chosen.{LastListed}
 
 -- "With no train gone and minute 0 it is the ordinary plan.": of every sheet and every area, refusals too
 pub as_ever : (s : Sheet) (lent : List ℤ) → relist_to s nothing_gone lent ≡ list_to s lent

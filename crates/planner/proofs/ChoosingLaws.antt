@@ -25,7 +25,8 @@ use Rattle.rounds.proofs.AreaLaws.{choice_refuses}
 use Rattle.rounds.proofs.AimLaws.{whole}
 use Rattle.rounds.proofs.ChoiceLaws.{Chose, no_schedule, too_early, choice, chose}
 use Rattle.rounds.specs.Told.{ChoiceTold}
-use Rattle.front.proofs.Front.{ChosenListed, chosen_plan, chosen_booked, chosen_empty_trains, chosen_prompt, chosen_listed, chosen_best}
+use Rattle.front.specs.Chosen.{ChosenListed}
+use Rattle.front.proofs.Front.{chosen_plan, chosen_booked, chosen_empty_trains, chosen_prompt, chosen_listed, chosen_best}
 use Rattle.front.proofs.Front.{no_schedule_chosen, wish_too_early}
 use Rattle.planner.specs.InAreas.{plan_in}
 use Rattle.room.proofs.CallLaws.{told_first, told_then}

@@ -14,7 +14,7 @@ use Rattle.rounds.specs.EntryPlan.{EntryPlan}
 use Rattle.rounds.specs.Prompt.{Prompt}
 use Rattle.rounds.specs.ChosenPair.{Best, TooEarly}
 use Rattle.rounds.specs.Told.{ChoiceTold}
-use Rattle.front.proofs.Front.{ChosenListed}
+use Rattle.front.specs.Chosen.{ChosenListed}
 use Rattle.planner.specs.InAreas.{plan_in}
 
 -- the pair p is given

@@ -24,7 +24,7 @@ use Rattle.rounds.proofs.AreaLaws.{listing_told, choice_told}
 use Rattle.rounds.specs.Replan.{behind, relist, rechoose, relist_to, rechoose_to}
 use Rattle.rounds.proofs.ReplanLaws.{wrong, relist_refuses, rechoice_refuses}
 use Rattle.rounds.specs.Told.{ListTold, ChoiceTold}
-use Rattle.front.proofs.Front.{LastListed}
+use Rattle.front.specs.Chosen.{LastListed}
 use Rattle.front.proofs.Replanned.{gone_wrong, gone_wrong_chosen, replanned_is_front, front_is_replanned, no_such_schedule, replanned_within}
 use Rattle.front.proofs.Replanned.{no_such_schedule_chosen, wish_too_early, chosen_begins, chosen_windows, chosen_empty_trains, chosen_prompt}
 use Rattle.front.proofs.Replanned.{chosen_listed, chosen_best}

@@ -16,7 +16,7 @@ use Rattle.rounds.specs.Prompt.{Prompt}
 use Rattle.rounds.specs.ChosenPair.{BestAmong, TooEarlyAmong}
 use Rattle.rounds.specs.Replan.{relist, rechoose_to}
 use Rattle.rounds.specs.Told.{ChoiceTold}
-use Rattle.front.proofs.Front.{LastListed}
+use Rattle.front.specs.Chosen.{LastListed}
 use Rattle.planner.specs.InAreas.{plan_in}
 use Rattle.planner.specs.Choosing.{Gives}
 use Rattle.gone.specs.GonePart.{gone_part}
