@@ -1,4 +1,4 @@
-// Plans each stored sheet that the file `list` names, a name a line, and prints its name and its plan.
+// Plans each stored sheet that the file `list` names, and prints its name and its plan. The names end with byte 10 each.
 #![tactic(auto)]
 
 use report::MOST_TEXT;
@@ -15,8 +15,10 @@ fn plan_file(rt: &HostRuntime, name: &str) -> io::Result<()> {
 
 fn main(rt: HostRuntime) -> io::Result<()> {
     let names = fs::read_to_string(&rt, "list")?;
-    for name in names.lines() {
-        plan_file(&rt, name)?;
+    for line in names.split_inclusive('\n') {
+        if let Some(name) = line.strip_suffix('\n') {
+            plan_file(&rt, name)?;
+        }
     }
     Ok(())
 }
