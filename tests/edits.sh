@@ -8,7 +8,7 @@ cd "$(dirname "$0")/.." || exit 2
 # what the prover says of a fact that fails: two types that differ, two terms that are not the same, arithmetic or equations that do not follow, an equation
 # or a promise that is left open. rt cuts what it repeats, so of a comparison there may be no more than the beginning.
 fact='the two (types|indices|sides)|expected type|does not hold|does not follow from what it read|the equations do not join|list the missing equation'
-fact="$fact|give a proof of that as the last argument|no occurrence of the path|it is not proved that|error: \`[^\`]+\`: \`[a-z]+\\.[^\`]*\$"
+fact="$fact|give a proof of that as the last argument|\`search\`: no proof of|no occurrence of the path|it is not proved that|error: \`[^\`]+\`: \`[a-z]+\\.[^\`]*\$"
 form='only because a proof file names|is not in scope|has no field|has no `|can be named from here|cannot read the edited text|only by a limit of the prover'
 
 all=$(ls crates/*/must-fail/*.edit | wc -l)

@@ -1,7 +1,8 @@
 // What the programs read and print: the text of a sheet, and the plan of it or its refusal.
 #![tactic(auto)]
 
-ghost use Rattle.std.specs.Prelude.{◌≤◌, IfOk, length};
+ghost use Rattle.std.specs.Prelude.{◌<◌, ◌≤◌, IfOk, length, take};
+ghost use Rattle.std.specs.Io.KnownBytes.{Consumes, IsAtEnd};
 
 use model::limits::MOST_PRINTED;
 use std::io::{self, Print, Read, Write};
@@ -11,7 +12,9 @@ pub const MOST_TEXT: usize = 65536;
 
 // Reads until the buffer is full or the input ends. Gives how many bytes it put to the front of the buffer.
 pub fn read_text<R: Read>(reader: &mut R, text: &mut [u8]) -> io::Result<usize>
-    ensures { IfOk result (λ n. n ≤ length text.new) }
+    ensures within { IfOk result (λ n. n ≤ length text.new) }
+    ensures bytes { IfOk result (λ n. Consumes (R.remaining reader.old) (R.remaining reader.new) (take n text.new)) }
+    ensures end { IfOk result (λ n. n < length text.new → IsAtEnd (R.remaining reader.new)) }
 {
     let mut done = 0;
     while done < text.len() {
