@@ -21,5 +21,6 @@ loop-done-preserved g c =
     let text = c.loop-done.text in
     let left = g.R.Read.remaining in
     let here = placed done c.in_ok-count.count (length text - done) text c.read.new.buf c.loop-done.invariant.0 c.in_ok-count.ensures.bound.0 in
-    let both = Consumes-trans (left c.args.reader.now) (left c.loop-done.reader) (left c.read.new.self) _ _ c.loop-done.invariant.2 c.in_ok-count.ensures.bytes.0 in
-    (search rules, search rules, subst (λ (l : List ℕ). Consumes (left c.args.reader.now) (left c.read.new.self) l) (sym here) both)
+    let found = left c.args.reader.now in
+    let both = Consumes-trans found (left c.loop-done.reader) (left c.read.new.self) _ _ c.loop-done.invariant.2 c.in_ok-count.ensures.bytes.0 in
+    (search rules, search rules, subst (λ (l : List ℕ). Consumes found (left c.read.new.self) l) (sym here) both)
