@@ -1,13 +1,13 @@
 -- Laws of listing a pair and of writing a plan. Assumes nothing.
 use Rattle.std.specs.Prelude.{◌≡◌, refl, ◌⊎◌, cond, List, [], ◌∷◌, ◌++◌, eqb, ℤ, pos, length, set, take, drop}
-use Rattle.std.proofs.Common.{sym, ap, ◌∙◌, subst, inl, inr, add-one, length-append, length-drop, length-take, length-set, eq-eqb, ne_eqb}
+use Rattle.std.proofs.Common.{sym, ap, ◌∙◌, subst, inl, inr, add-one, length-append, length-drop, eq-eqb, ne_eqb}
 use Prim.Native.Nat.{ℕ, zero, suc, ◌+◌, ◌*◌, ◌-◌, ◌≤◌, ◌<◌}
 use native.Mathlib.Omega.{arith}
 use Rattle.std.proofs.Math.Seq.{get_or-take}
 use Rattle.numbers.specs.Counting.{at}
 use Rattle.numbers.specs.DecidesLaws.{decided, decides_eq}
 use Rattle.numbers.specs.Over.{over}
-use Rattle.numbers.specs.OverLaws.{store_two_behind, store_three_behind, store_two_over, copy_next}
+use Rattle.numbers.specs.OverLaws.{store_two_behind, store_three_behind, store_two_over}
 use Rattle.model.specs.Limits.{numbers_a_pair, numbers_a_train}
 use Rattle.model.specs.Lateness.{Pair}
 use Rattle.rounds.specs.Recording.{Entry, record_entry, listed, recorded_arrival}
@@ -142,65 +142,21 @@ lists_more count last arrival worst area room k at_place area' is_written found 
             let space : numbers_a_pair * length all + 1 < length found = omega (arith, c, room_found found all count c (rw h at room)) in
             after_recording all (placed here h (rw other (after p found e is all space)))
 
--- ---- loops that write from the end: what is still to be written, over what is there, is what it was before the turn
+-- ---- the times of a train
 
-set_over : {A : Type 0} (written found : List A) (k : ℕ) (v : A) → length written ≤ k → k < length found
-    → over written (set found k v) ≡ set (over written found) k v
-set_over [] found k v h l = refl
-set_over (x ∷ f) [] k v h l = absurd (omega arith)
-set_over (x ∷ f) (y ∷ ys) zero v h l = absurd (omega arith)
-set_over (x ∷ f) (y ∷ ys) (suc k) v h l = ap (λ r. x ∷ r) (set_over f ys k v (omega arith) (omega arith))
-
--- an element of a list
-pub copy_last : (l found : List ℕ) (n : ℕ) → 0 < n → n ≤ length l → n ≤ length found
-    → over (take (n - 1) l) (set found (n - 1) (at l (n - 1))) ≡ over (take n l) found
-copy_last l found n some few h =
-    let j = n - 1 in
-    let e : j + 1 ≡ n = omega arith in
-    let short : length (take j l) ≤ j = simp length-take (omega arith) in
-    set_over (take j l) found j (at l j) short (omega arith)
-    ∙ copy_next l found j (omega arith) (omega arith)
-    ∙ ap (λ (m : ℕ). over (take m l) found) e
-
--- the times of a train
-module _ (departure arrival window found : List ℕ) (all : ℕ) where
+module _ (departure arrival window : List ℕ) (all : ℕ) where
   -- of the first i trains
   abbrev times : ℕ → List ℕ
   times i = time_numbers (take all departure) (take all arrival) (take all window) i
 
-  -- where those of train i + 1 begin
-  abbrev begin : ℕ → ℕ
-  begin i = numbers_a_train * i
-
-  times_long : (i : ℕ) → length (times i) ≡ begin i
-  times_long = time_numbers_length (take all departure) (take all arrival) (take all window)
-
-  -- those of train i + 1, written in an area
-  abbrev written_times : (i : ℕ) → List ℕ → List ℕ
-  written_times i area = set (set (set area (begin i) (at departure i)) (begin i + 1) (at arrival i)) (begin i + 1 + 1) (at window i)
-
-  times_next : (i : ℕ) → i < all → begin i + 1 + 1 < length found → written_times i (over (times i) found) ≡ over (times (i + 1)) found
+  -- behind those of the first i trains, in an area over `found`, those of train i + 1
+  pub times_next : (found out : List ℕ) (i v : ℕ) → i < all → numbers_a_train * all ≤ length found → out ≡ over (times i) found → v ≡ at window i
+      → set (set (set out (numbers_a_train * i) (at departure i)) (numbers_a_train * i + 1) (at arrival i)) (numbers_a_train * i + 2) v
+      ≡ over (times (i + 1)) found
   unfolding time_numbers
-  times_next i few h =
+  times_next found out i v few h is e =
       let b : suc i - 1 ≡ i = omega arith in
-      rw (add-one i, b, get_or-take all departure i 0 few, get_or-take all arrival i 0 few, get_or-take all window i 0 few)
-      (store_three_behind (times i) found (begin i) (at departure i) (at arrival i) (at window i) (times_long i) h)
-
-  -- a store behind the times of the first i trains, in an area as long as the one found
-  store_over : (i k v : ℕ) (area : List ℕ) → begin i ≤ k → k < length found → length area ≡ length found
-      → over (times i) (set area k v) ≡ set (over (times i) area) k v
-  store_over i k v area h l e = set_over (times i) area k v (omega (arith, times_long i)) (omega arith)
-
-  pub times_last : (q : ℕ) → 0 < q → q ≤ all → begin q ≤ length found → over (times (q - 1)) (written_times (q - 1) found) ≡ over (times q) found
-  times_last q some few h =
-      let i = q - 1 in
-      let e : i + 1 ≡ q = omega arith in
-      let once = set found (begin i) (at departure i) in
-      let twice = set once (begin i + 1) (at arrival i) in
-      store_over i (begin i + 1 + 1) (at window i) twice (omega arith) (omega arith) (simp length-set)
-      ∙ ap (λ (l : List ℕ). set l (begin i + 1 + 1) (at window i))
-      (store_over i (begin i + 1) (at arrival i) once (omega arith) (omega arith) (simp length-set)
-      ∙ ap (λ (l : List ℕ). set l (begin i + 1) (at arrival i))
-      (store_over i (begin i) (at departure i) found (omega arith) (omega arith) refl))
-      ∙ times_next i (omega arith) (omega arith)
-      ∙ ap (λ (m : ℕ). over (times m) found) e
+      let last : numbers_a_train * i + 2 ≡ numbers_a_train * i + 1 + 1 = omega arith in
+      let long = time_numbers_length (take all departure) (take all arrival) (take all window) i in
+      rw (is, e, last, add-one i, b, get_or-take all departure i 0 few, get_or-take all arrival i 0 few, get_or-take all window i 0 few)
+      (store_three_behind (times i) found (numbers_a_train * i) (at departure i) (at arrival i) (at window i) long (omega arith))

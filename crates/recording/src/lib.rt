@@ -20,24 +20,20 @@ pub fn list_pair(pairs: &mut [i64], mut count: usize, last: u32, arrival: u32, w
     if (count > 0) & (last == arrival) {
         count -= 1;
     }
-    let mut k = NUMBERS_A_PAIR * count;
-    pairs[k] = arrival as i64;
-    k += 1;
-    pairs[k] = worst;
+    let k = NUMBERS_A_PAIR * count;
+    pairs[k] = i64::from(arrival);
+    pairs[k + 1] = worst;
     count + 1
 }
 
 // ---- the plan's part
 
 // The train of each of n orders, to the front of the lent area.
-pub fn put_trains(train: [u8; MOST_ORDERS], mut n: usize, out: &mut [u8])
+pub fn put_trains(train: [u8; MOST_ORDERS], n: usize, out: &mut [u8])
     requires { (n ≤ order_counts.most) × (n ≤ length out.old) }
     ensures { out.new ≡ over (take n train) out.old }
 {
-    while n > 0 {
-        n -= 1;
-        out[n] = train[n];
-    }
+    out[..n].copy_from_slice(&train[..n]);
 }
 
 // The departure, the arrival and the window of each of q trains, to the front of the lent area.
@@ -45,19 +41,16 @@ pub fn put_times(
     departure: [u32; MOST_TRAINS],
     arrival: [u32; MOST_TRAINS],
     window: [u8; MOST_TRAINS],
-    mut q: usize,
+    q: usize,
     out: &mut [u32],
 )
     requires { (q ≤ train_counts.most) × (numbers_a_train * q ≤ length out.old) }
     ensures { out.new ≡ over (time_numbers (take q departure) (take q arrival) (take q window) q) out.old }
 {
-    while q > 0 {
-        q -= 1;
-        let mut k = NUMBERS_A_TRAIN * q;
-        out[k] = departure[q];
-        k += 1;
-        out[k] = arrival[q];
-        k += 1;
-        out[k] = window[q] as u32;
+    for i in 0..q {
+        let k = NUMBERS_A_TRAIN * i;
+        out[k] = departure[i];
+        out[k + 1] = arrival[i];
+        out[k + 2] = u32::from(window[i]);
     }
 }
