@@ -1,8 +1,8 @@
 -- What the tests 5, 2, 6 and 7 answer to a sheet that passes test 4.
 use Rattle.std.specs.Prelude.{Bool}
 use Rattle.model.specs.Admission.{passed}
-use Rattle.model.specs.declared.Admission.{Admission}
-use Rattle.model.specs.declared.Admission.TheVariants.{Granted}
+use Rattle.std.specs.Prelude.{Ok}
+use Rattle.model.specs.Replies.{Admission}
 use Rattle.model.specs.declared.Refusal.TheVariants.{OutOfRange, KindMissing, OutOfOrder, TooFewPlaces}
 
 -- the first that fails decides
@@ -11,4 +11,4 @@ first_refusal complete in_range is_in_order roomy =
     passed complete KindMissing
     (passed in_range (OutOfRange 0)
     (passed is_in_order (OutOfOrder 0)
-    (passed roomy TooFewPlaces Granted)))
+    (passed roomy TooFewPlaces (Ok tt))))

@@ -9,34 +9,34 @@ ghost use Rattle.model.specs.Memory.{sheet_of};
 ghost use Rattle.model.specs.Admission.{admission};
 ghost use Rattle.admission.specs.FirstRefusal.{first_refusal};
 
-use model::{Admission, Refusal, Sheet};
+use model::{Refusal, Sheet};
 
 // The answer to a sheet that passes test 4: the first of the tests 5, 2, 6 and 7 that fails decides.
-fn first_refusal(complete: bool, in_range: bool, in_order: bool, roomy: bool) -> Admission
+fn first_refusal(complete: bool, in_range: bool, in_order: bool, roomy: bool) -> Result<(), Refusal>
     ensures { result ≡ first_refusal complete in_range in_order roomy }
 {
     if !complete {
-        return Admission::Refused(Refusal::KindMissing);
+        return Err(Refusal::KindMissing);
     }
     if !in_range {
-        return Admission::Refused(Refusal::OutOfRange(0));
+        return Err(Refusal::OutOfRange(0));
     }
     if !in_order {
-        return Admission::Refused(Refusal::OutOfOrder(0));
+        return Err(Refusal::OutOfOrder(0));
     }
     if !roomy {
-        return Admission::Refused(Refusal::TooFewPlaces);
+        return Err(Refusal::TooFewPlaces);
     }
-    Admission::Granted
+    Ok(())
 }
 
 // "A planning call tests its sheet itself: 4, 5, 2, 6, 7 ..", with 0 returned; 10 is tested by the planning call. Columns are short, so every test after
 // test 4 is made.
-pub fn admit(sheet: Sheet) -> Admission
+pub fn admit(sheet: Sheet) -> Result<(), Refusal>
     ensures { result ≡ admission (sheet_of sheet) }
 {
     if !tests::few(sheet) {
-        return Admission::Refused(Refusal::TooMany(0));
+        return Err(Refusal::TooMany(0));
     }
     let complete = tests::complete(sheet);
     let in_range = tests::in_range(sheet);

@@ -4,11 +4,9 @@ use Rattle.std.proofs.Common.{sym, ◌∙◌, arith}
 use Rattle.std.specs.Prelude.{List, ℕ, ◌≤◌}
 use Rattle.model.specs.Sheet.{Sheet}
 use Rattle.model.specs.Admission.{Admitted, admission}
-use Rattle.model.specs.declared.Admission.{Admission}
-use Rattle.model.specs.declared.Admission.TheVariants as tests
+use Rattle.std.specs.Prelude.{Ok, Err}
+use Rattle.model.specs.Replies.{Admission, BoundReply}
 use Rattle.model.specs.declared.Refusal.{Refusal}
-use Rattle.model.specs.declared.BoundReply.{BoundReply}
-use Rattle.model.specs.declared.BoundReply.TheVariants.{Bounded, Refused}
 use Rattle.rounds.specs.Recording.{Entry}
 use Rattle.rounds.specs.Rounds.{Search, ended, start, rounds}
 use Rattle.rounds.specs.RoundsBound.{rounds_bound}
@@ -24,12 +22,12 @@ use Rattle.bound.specs.BoundCall.{BoundCall}
 
 module _ (s : Sheet) (t : Admission) (is : t ≡ admission s) where
   -- the first test that fails
-  pub told_refused : (r : Refusal) → t ≡ tests.Refused r → Refused r ≡ bound_reply (bound s)
+  pub told_refused : (r : Refusal) → t ≡ Err r → Err r ≡ bound_reply (bound s)
   unfolding bound bound_reply after_tests
   told_refused r e = ap (λ (x : Admission). bound_reply (after_tests x (given (rounds_bound s)))) (sym e ∙ is)
 
   -- or the figure
-  pub told_figure : t ≡ tests.Granted → Bounded (rounds_bound s) ≡ bound_reply (bound s)
+  pub told_figure : t ≡ Ok tt → Ok (rounds_bound s) ≡ bound_reply (bound s)
   unfolding bound bound_reply after_tests
   told_figure e = ap (λ (x : Admission). bound_reply (after_tests x (given (rounds_bound s)))) (sym e ∙ is)
 
@@ -37,15 +35,15 @@ module _ (s : Sheet) (t : Admission) (is : t ≡ admission s) where
 
 module _ (s : Sheet) (r : BoundReply) (equal : r ≡ bound_reply (bound s)) where
   -- a figure that is given is that of an admitted sheet
-  pub given_so : (most : ℕ) → r ≡ Bounded most → Admitted s × (most ≡ rounds_bound s)
+  pub given_so : (most : ℕ) → r ≡ Ok most → Admitted s × (most ≡ rounds_bound s)
   unfolding bound_reply
   given_so most e = go (bound s) refl (sym equal ∙ e)
     where
-      go : (x : Answer ℕ) → bound s ≡ x → bound_reply x ≡ Bounded most → Admitted s × (most ≡ rounds_bound s)
+      go : (x : Answer ℕ) → bound s ≡ x → bound_reply x ≡ Ok most → Admitted s × (most ≡ rounds_bound s)
       go (refused f) u v = absurd (let z : ◌≡◌ {A = ℕ} 0 1 = cc in omega arith)
       go (given m) u v = let same : m ≡ most = cc in bound_given s most (u ∙ ap given same)
 
-  figure_of : Admitted s → r ≡ Bounded (rounds_bound s)
+  figure_of : Admitted s → r ≡ Ok (rounds_bound s)
   unfolding bound_reply
   figure_of a = equal ∙ ap bound_reply (bound_admitted s a)
 

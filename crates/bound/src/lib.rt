@@ -7,7 +7,7 @@ ghost use Rattle.model.specs.Admission.{Admitted};
 ghost use Rattle.rounds.specs.RoundsBound.{rounds_bound};
 ghost use Rattle.bound.specs.BoundCall.{BoundCall};
 
-use model::{Admission, BoundReply, Sheet, TimetableSheet, WindowSheet};
+use model::{Refusal, Sheet, TimetableSheet, WindowSheet};
 
 fn smaller(a: usize, b: usize) -> usize
     ensures { result ≡ min a b }
@@ -36,12 +36,12 @@ pub fn figure(sheet: Sheet) -> usize
 }
 
 // The figure of a sheet of either form that passes 4, 5, 2, 6 and 7, else that refusal.
-pub fn bound(sheet: Sheet) -> BoundReply
+pub fn bound(sheet: Sheet) -> Result<usize, Refusal>
     ensures { BoundCall (sheet_of sheet) result }
 {
     let admission = admission::admit(sheet);
-    if let Admission::Refused(refusal) = admission {
-        return BoundReply::Refused(refusal);
+    if let Err(refusal) = admission {
+        return Err(refusal);
     }
     BoundReply::Bounded {
         most: figure(sheet),
@@ -49,14 +49,14 @@ pub fn bound(sheet: Sheet) -> BoundReply
 }
 
 // Of a sheet of the window form.
-pub fn bound_windows(sheet: WindowSheet) -> BoundReply
+pub fn bound_windows(sheet: WindowSheet) -> Result<usize, Refusal>
     ensures { BoundCall (window_sheet sheet) result }
 {
     bound(borders::from_windows(sheet))
 }
 
 // Of a sheet of the timetable form.
-pub fn bound_timetable(sheet: TimetableSheet) -> BoundReply
+pub fn bound_timetable(sheet: TimetableSheet) -> Result<usize, Refusal>
     ensures { BoundCall (timetable_sheet sheet) result }
 {
     bound(borders::from_timetable(sheet))

@@ -2,36 +2,36 @@
 use Rattle.std.specs.Prelude.{◌≡◌, refl, ◌⊎◌, List, ℕ, ℤ}
 use Rattle.std.proofs.Common.{◌∙◌, ap, subst, inl, inr, arith}
 use Rattle.model.specs.Sheet.{Sheet}
-use Rattle.model.specs.Refusal.{of_check, number_of, returned_of}
+use Rattle.model.specs.Refusal.{of_reply, number_of, returned_of}
 use Rattle.model.specs.declared.Row.{Row}
-use Rattle.model.specs.declared.CheckReply.{CheckReply}
-use Rattle.model.specs.declared.CheckReply.TheVariants as checking
+use Rattle.std.specs.Prelude.{Err}
+use Rattle.model.specs.Replies.{CheckReply, checked_as}
 use Rattle.checker.specs.Checking.{SaysYes, CheckingCall}
 use Rattle.exported.proofs.ExportedLaws.{numbered}
 use Rattle.checked.specs.ExportedChecking.{check_of, pair_checked, ExportedCheck}
 use Rattle.checked.specs.declared.Check.{Check}
 
 -- the cause of a reply
-check_cause : (x : CheckReply) → (check_of x).cause ≡ record { number = number_of (of_check x); returned = returned_of (of_check x) }
-check_cause (checking.Checked last worst listed pairs rounds) = refl
-check_cause (checking.Refused r) = refl
+check_cause : (x : CheckReply) → (check_of x).cause ≡ record { number = number_of (of_reply x); returned = returned_of (of_reply x) }
+check_cause (Ok v) = refl
+check_cause (Err r) = refl
 
 -- a reply without a number says yes, with the numbers told
-told_is : (x : CheckReply) → number_of (of_check x) ≡ 0
-    → x ≡ checking.Checked (check_of x).last (check_of x).worst (check_of x).listed (check_of x).pairs (check_of x).rounds
-told_is (checking.Checked last worst listed pairs rounds) e = refl
-told_is (checking.Refused r) e = absurd (omega (arith, numbered r))
+told_is : (x : CheckReply) → number_of (of_reply x) ≡ 0
+    → x ≡ checked_as (check_of x).last (check_of x).worst (check_of x).listed (check_of x).pairs (check_of x).rounds
+told_is (Ok v) e = refl
+told_is (Err r) e = absurd (omega (arith, numbered r))
 
-abbrev yes_told : (x : CheckReply) → number_of (of_check x) ≡ 0 → SaysYes x
+abbrev yes_told : (x : CheckReply) → number_of (of_reply x) ≡ 0 → SaysYes x
 yes_told x e =
     record { pair = pair_checked (check_of x); listed = (check_of x).listed; pairs = (check_of x).pairs; rounds = (check_of x).rounds; is = told_is x e }
 
 -- and one that says yes has no number
-yes_number : (x : CheckReply) → SaysYes x → number_of (of_check x) ≡ 0
-yes_number x y = ap (λ (z : CheckReply). number_of (of_check z)) y.is
+yes_number : (x : CheckReply) → SaysYes x → number_of (of_reply x) ≡ 0
+yes_number x y = ap (λ (z : CheckReply). number_of (of_reply z)) y.is
 
-told_number : (x : CheckReply) → SaysYes x ⊎ ((number_of (of_check x) ≡ 12) ⊎ (number_of (of_check x) ≡ 13))
-    → (number_of (of_check x) ≡ 0) ⊎ ((number_of (of_check x) ≡ 12) ⊎ (number_of (of_check x) ≡ 13))
+told_number : (x : CheckReply) → SaysYes x ⊎ ((number_of (of_reply x) ≡ 12) ⊎ (number_of (of_reply x) ≡ 13))
+    → (number_of (of_reply x) ≡ 0) ⊎ ((number_of (of_reply x) ≡ 12) ⊎ (number_of (of_reply x) ≡ 13))
 told_number x (inl y) = inl (yes_number x y)
 told_number x (inr n) = inr n
 

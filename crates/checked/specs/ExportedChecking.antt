@@ -7,8 +7,8 @@ use Rattle.model.specs.Lateness.{Pair, pair_of, pair_at}
 use Rattle.model.specs.Foreign.{RowsFit, trains_told}
 use Rattle.model.specs.Admission.{Admitted}
 use Rattle.model.specs.declared.Row.{Row}
-use Rattle.model.specs.declared.CheckReply.{CheckReply}
-use Rattle.model.specs.declared.CheckReply.TheVariants as checking
+use Rattle.std.specs.Prelude.{Err}
+use Rattle.model.specs.Replies.{CheckReply}
 use Rattle.rounds.specs.ChosenPair.{Unbeaten}
 use Rattle.rounds.specs.Areas.{ListRoom}
 use Rattle.rounds.specs.Checking.{check_to, check_reply}
@@ -20,9 +20,9 @@ use Rattle.checked.specs.declared.Check.{Check}
 
 -- a checking call's reply
 abbrev pub check_of : CheckReply → Check
-check_of (checking.Checked last worst listed pairs rounds) =
-    record { cause = no_cause; last = last; worst = worst; listed = listed; pairs = pairs; rounds = rounds }
-check_of (checking.Refused r) = record { cause = cause_of r; last = 0; worst = pos 0; listed = false; pairs = 0; rounds = 0 }
+check_of (Ok v) =
+    record { cause = no_cause; last = v.last; worst = v.worst; listed = v.listed; pairs = v.pairs; rounds = v.rounds }
+check_of (Err r) = record { cause = cause_of r; last = 0; worst = pos 0; listed = false; pairs = 0; rounds = 0 }
 
 -- the plan's pair
 abbrev pub pair_checked : Check → Pair

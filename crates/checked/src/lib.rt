@@ -5,7 +5,7 @@ ghost use Rattle.std.specs.Prelude.{◌≡◌};
 ghost use Rattle.checked.specs.ExportedChecking.{check_of};
 
 use exported::{Cause, cause_of};
-use model::CheckReply;
+use model::Refusal;
 
 // What checking a plan gives: its pair, last arrival and worst weighted lateness, whether that pair is listed, how many pairs are listed and how many rounds
 // were made; or the cause beside noughts.
@@ -20,7 +20,7 @@ pub struct Check {
     pub rounds: usize,
 }
 
-pub fn check_of(reply: CheckReply) -> Check
+pub fn check_of(reply: Result<Checked, Refusal>) -> Check
     ensures { result ≡ check_of reply }
 {
     match reply {
@@ -41,7 +41,7 @@ pub fn check_of(reply: CheckReply) -> Check
             pairs: pairs,
             rounds: rounds,
         },
-        CheckReply::Refused(refusal) => Check {
+        Err(refusal) => Check {
             cause: cause_of(refusal),
             last: 0,
             worst: 0,

@@ -10,10 +10,10 @@ use Rattle.model.specs.Sheet.{Sheet}
 use Rattle.model.specs.Schedule.{Schedule}
 use Rattle.model.specs.Lateness.{Pair, pair_of, pair_at}
 use Rattle.model.specs.Foreign.{RowsFit, trains_told}
-use Rattle.model.specs.Refusal.{of_check, number_of}
+use Rattle.model.specs.Refusal.{of_reply, number_of}
 use Rattle.model.specs.Admission.{Admitted}
 use Rattle.model.specs.declared.Row.{Row}
-use Rattle.model.specs.declared.CheckReply.{CheckReply}
+use Rattle.model.specs.Replies.{CheckReply}
 use Rattle.rounds.specs.ChosenPair.{Unbeaten}
 use Rattle.rounds.specs.Answers.{Answer, refused, given}
 use Rattle.rounds.specs.Areas.{ListRoom, list_room, pair_numbers, list_left}
@@ -39,7 +39,7 @@ check_of_rows s departure rows lent a room =
 
 module _ (s : Sheet) (departure : List ℕ) (rows : List Row) where
   abbrev told_number : Answer Verdict → ℕ
-  told_number x = number_of (of_check (check_reply x))
+  told_number x = number_of (of_reply (check_reply x))
 
   twelve_told : (x : Answer Verdict) → Judged s departure rows x → told_number x ≡ 12 ↔ (¬ RowsFit s departure rows)
   unfolding check_reply
@@ -171,5 +171,5 @@ module _ (s : Sheet) (departure : List ℕ) (rows : List Row) (r : CheckReply) (
         seven = rw told.replied (check_refuses s departure rows found).seven;
         returns_zero = rw told.replied (check_refuses s departure rows found).returns_zero;
         as_found = λ l. told.areas_left
-            ∙ check_as_found (check_to s departure rows found) found (subst (λ (x : CheckReply). 1 ≤ number_of (of_check x)) told.replied l);
+            ∙ check_as_found (check_to s departure rows found) found (subst (λ (x : CheckReply). 1 ≤ number_of (of_reply x)) told.replied l);
       }

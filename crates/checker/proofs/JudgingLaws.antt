@@ -15,13 +15,10 @@ use Rattle.model.specs.ScheduleTest.{is_schedule}
 use Rattle.model.specs.Foreign.{rows_fit, trains_told}
 use Rattle.model.specs.Admission.{Admitted}
 use Rattle.model.specs.declared.Row.{Row}
-use Rattle.model.specs.declared.Admission.{Admission}
-use Rattle.model.specs.declared.Admission.TheVariants as outcome
+use Rattle.std.specs.Prelude.{Ok, Err}
+use Rattle.model.specs.Replies.{Admission, ListReply, CheckReply, checked_as}
 use Rattle.model.specs.declared.Refusal.{Refusal}
 use Rattle.model.specs.declared.Refusal.TheVariants.{WrongRows, RuleBroken}
-use Rattle.model.specs.declared.ListReply.{ListReply}
-use Rattle.model.specs.declared.CheckReply.{CheckReply}
-use Rattle.model.specs.declared.CheckReply.TheVariants as checking
 use Rattle.rounds.specs.Answers.{Answer, refused, given, Listing, list}
 use Rattle.rounds.specs.Areas.{list_room, tested, after_tests, list_to, list_reply, list_left, pair_numbers}
 use Rattle.rounds.proofs.AreaLaws.{pair_numbers_length}
@@ -145,7 +142,7 @@ unfolding beside beside_reply list_reply list_left check_reply check_left
 beside_told p (refused r) found = record { replied = refl; areas_left = refl }
 beside_told p (given l) found =
     record {
-      replied = ap (λ (b : Bool). checking.Checked p.last p.worst b (length l.pairs) l.rounds) (found_listed p l.pairs found);
+      replied = ap (λ (b : Bool). checked_as p.last p.worst b (length l.pairs) l.rounds) (found_listed p l.pairs found);
       areas_left = refl;
     }
 
@@ -155,18 +152,18 @@ module _ (s : Sheet) (departure : List ℕ) (rows : List Row) (lent : List ℤ) 
   abbrev room : Bool
   room = list_room s (length lent)
 
-  pub told_refused : (f : Refusal) → t ≡ outcome.Refused f → CheckTold (check_to s departure rows lent) (checking.Refused f) lent lent
+  pub told_refused : (f : Refusal) → t ≡ Err f → CheckTold (check_to s departure rows lent) (Err f) lent lent
   unfolding check_to check_reply check_left
   told_refused f e = told_first check_reply check_left s room (check s departure rows) lent t is f e refl
 
-  pub told_broken : t ≡ outcome.Granted → (f : Refusal) → judged_so s departure rows ≡ Broken f
-      → CheckTold (check_to s departure rows lent) (checking.Refused f) lent lent
+  pub told_broken : t ≡ Ok tt → (f : Refusal) → judged_so s departure rows ≡ Broken f
+      → CheckTold (check_to s departure rows lent) (Err f) lent lent
   unfolding check_to check_reply check_left
   told_broken e f b =
-      told_then check_reply check_left s room (check s departure rows) lent t is e (checking.Refused f) lent
+      told_then check_reply check_left s room (check s departure rows) lent t is e (Err f) lent
       (rw (broken_means s departure rows f b) (record { replied = refl; areas_left = refl }))
 
-  pub told_kept : t ≡ outcome.Granted → (p : Pair) → judged_so s departure rows ≡ kept p → (r : ListReply) (left : List ℤ)
+  pub told_kept : t ≡ Ok tt → (p : Pair) → judged_so s departure rows ≡ kept p → (r : ListReply) (left : List ℤ)
       → ListTold (list_to s lent) r left lent → (x : CheckReply) → x ≡ beside_reply r p.last p.worst left
       → CheckTold (check_to s departure rows lent) x left lent
   unfolding check_to list_to

@@ -8,8 +8,7 @@ use Rattle.model.specs.Sheet.{Sheet}
 use Rattle.model.specs.Lateness.{Pair}
 use Rattle.model.specs.Foreign.{RowsTell}
 use Rattle.model.specs.declared.Row.{Row}
-use Rattle.model.specs.declared.ChoiceReply.{ChoiceReply}
-use Rattle.model.specs.declared.CheckReply.{CheckReply}
+use Rattle.model.specs.Replies.{ChoiceReply, CheckReply}
 use Rattle.rounds.specs.Recording.{Plan}
 use Rattle.rounds.specs.Areas.{ListRoom, PlanAreas}
 use Rattle.rounds.specs.Answers.{given}

@@ -5,11 +5,10 @@ use Rattle.model.specs.Sheet.{Sheet, places}
 use Rattle.model.specs.Schedule.{Schedule}
 use Rattle.model.specs.Lateness.{Pair, pair_of, pair_at}
 use Rattle.model.specs.Foreign.{RowsFit, trains_told}
-use Rattle.model.specs.Refusal.{of_check, number_of, returned_of}
+use Rattle.model.specs.Refusal.{of_reply, number_of, returned_of}
 use Rattle.model.specs.Admission.{Admitted}
 use Rattle.model.specs.declared.Row.{Row}
-use Rattle.model.specs.declared.CheckReply.{CheckReply}
-use Rattle.model.specs.declared.CheckReply.TheVariants.{Checked}
+use Rattle.model.specs.Replies.{CheckReply, checked_as}
 use Rattle.rounds.specs.ChosenPair.{Unbeaten}
 use Rattle.rounds.specs.Areas.{ListRoom}
 use Rattle.rounds.specs.Checking.{check_to}
@@ -25,7 +24,7 @@ pub record SaysYes (r : CheckReply) : Type 0 where
   pub listed : Bool
   pub pairs : ℕ
   pub rounds : ℕ
-  pub is : r ≡ Checked pair.last pair.worst listed pairs rounds
+  pub is : r ≡ checked_as pair.last pair.worst listed pairs rounds
 
 -- the sheet passes 4, 5, 2, 6, 7 and 10; the rows pass 12; and what they say is a schedule of the model
 pub record IsSchedule (s : Sheet) (departure : List ℕ) (rows : List Row) (lent : List ℤ) : Type 0 where
@@ -48,17 +47,17 @@ pub record CheckingCall (s : Sheet) (departure : List ℕ) (rows : List Row) (r 
   -- "a lent pairs area takes the list": the model's Pareto front
   pub front : (y : SaysYes r) → Front s (pairs_in y.pairs left)
   -- "12, a wrong number of rows, an order met twice or outside 1 to n, or a train outside 1 to q", of a sheet that passes 4, 5, 2, 6, 7 and 10
-  pub twelve : Admitted s → ListRoom s found → number_of (of_check r) ≡ 12 ↔ (¬ RowsFit s departure rows)
+  pub twelve : Admitted s → ListRoom s found → number_of (of_reply r) ≡ 12 ↔ (¬ RowsFit s departure rows)
   -- "13, a schedule rule broken", where 12 is not given
   pub thirteen : Admitted s → ListRoom s found → RowsFit s departure rows
-      → number_of (of_check r) ≡ 13 ↔ (¬ Schedule s (trains_told s.orders rows) departure)
+      → number_of (of_reply r) ≡ 13 ↔ (¬ Schedule s (trains_told s.orders rows) departure)
   -- of such a sheet nothing else is told: 8 and 11 never
-  pub answered : Admitted s → ListRoom s found → SaysYes r ⊎ ((number_of (of_check r) ≡ 12) ⊎ (number_of (of_check r) ≡ 13))
+  pub answered : Admitted s → ListRoom s found → SaysYes r ⊎ ((number_of (of_reply r) ≡ 12) ⊎ (number_of (of_reply r) ≡ 13))
   -- document 02, No. 5: "refusal 7 is given only if the capacities add up to less than n"
-  pub seven : number_of (of_check r) ≡ 7 → places s.capacity s.trains < s.orders
+  pub seven : number_of (of_reply r) ≡ 7 → places s.capacity s.trains < s.orders
   -- "A number added later returns 0 and changes nothing lent", as do the others
-  pub returns_zero : returned_of (of_check r) ≡ 0
-  pub as_found : 1 ≤ number_of (of_check r) → left ≡ found
+  pub returns_zero : returned_of (of_reply r) ≡ 0
+  pub as_found : 1 ≤ number_of (of_reply r) → left ≡ found
 
 -- what holds of whatever rows were gathered so
 abbrev pub CheckedOf : Given → (List Row → Type 0) → Type 0

@@ -8,10 +8,8 @@ use Rattle.model.specs.ScheduleTest.{is_schedule}
 use Rattle.model.specs.Foreign.{rows_fit, trains_told}
 use Rattle.model.specs.declared.Row.{Row}
 use Rattle.model.specs.declared.Refusal.TheVariants.{WrongRows, RuleBroken}
-use Rattle.model.specs.declared.ListReply.{ListReply}
-use Rattle.model.specs.declared.ListReply.TheVariants as listing
-use Rattle.model.specs.declared.CheckReply.{CheckReply}
-use Rattle.model.specs.declared.CheckReply.TheVariants as checking
+use Rattle.std.specs.Prelude.{Err}
+use Rattle.model.specs.Replies.{ListReply, CheckReply, listed_as, checked_as}
 use Rattle.checker.specs.declared.judging.Judgement.{Judgement}
 use Rattle.checker.specs.declared.judging.Judgement.TheVariants.{Kept, Broken}
 
@@ -37,9 +35,9 @@ listed_in area last worst count = some (pair_here area last worst) count
 
 -- as many pairs as the reply says lie in the area
 abbrev pub InArea : ListReply → List ℤ → Type 0
-InArea reply area = (pairs rounds : ℕ) → reply ≡ listing.Listed pairs rounds → numbers_a_pair * pairs ≤ length area
+InArea reply area = (pairs rounds : ℕ) → reply ≡ listed_as pairs rounds → numbers_a_pair * pairs ≤ length area
 
 unfoldable pub beside_reply : ListReply → (last : ℕ) (worst : ℤ) → List ℤ → CheckReply
 unfolding listed_in
-beside_reply (listing.Refused r) last worst area = checking.Refused r
-beside_reply (listing.Listed pairs rounds) last worst area = checking.Checked last worst (listed_in area last worst pairs) pairs rounds
+beside_reply (Err r) last worst area = Err r
+beside_reply (Ok l) last worst area = checked_as last worst (listed_in area last worst l.pairs) l.pairs l.rounds

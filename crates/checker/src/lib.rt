@@ -11,20 +11,20 @@ use crate::judging::{Judgement, judge};
 use crate::listed::beside;
 use foreign::{Given, gather};
 use listing::list;
-use model::{Admission, CheckReply, Row, Sheet, TimetableSheet, WindowSheet};
+use model::{Checked, Refusal, Row, Sheet, TimetableSheet, WindowSheet};
 
 // Checks a plan whose rows are gathered against a sheet of either form: 4, 5, 2, 6, 7 and 10 as for listing, then 12 and 13, and then the list.
-pub fn check(sheet: Sheet, departures: &[u32], given: Given, pairs: &mut [i64]) -> CheckReply
+pub fn check(sheet: Sheet, departures: &[u32], given: Given, pairs: &mut [i64]) -> Result<Checked, Refusal>
     ensures { CheckedOf given (λ rows. CheckingCall (sheet_of sheet) departures.now rows result pairs.new pairs.old) }
 {
     let tested = room::for_listing(sheet, pairs.len());
-    if let Admission::Refused(refusal) = tested {
-        return CheckReply::Refused(refusal);
+    if let Err(refusal) = tested {
+        return Err(refusal);
     }
     let judgement = judge(sheet, departures, given);
     match judgement {
         Judgement::Broken(refusal) => {
-            return CheckReply::Refused(refusal);
+            return Err(refusal);
         }
         Judgement::Kept { last, worst } => {
             let reply = list(sheet, pairs);
@@ -39,7 +39,7 @@ pub fn check_gathered_windows(
     departures: &[u32],
     given: Given,
     pairs: &mut [i64],
-) -> CheckReply
+) -> Result<Checked, Refusal>
     ensures { CheckedOf given (λ rows. CheckingCall (window_sheet sheet) departures.now rows result pairs.new pairs.old) }
 {
     check(borders::from_windows(sheet), departures, given, pairs)
@@ -51,7 +51,7 @@ pub fn check_gathered_timetable(
     departures: &[u32],
     given: Given,
     pairs: &mut [i64],
-) -> CheckReply
+) -> Result<Checked, Refusal>
     ensures { CheckedOf given (λ rows. CheckingCall (timetable_sheet sheet) departures.now rows result pairs.new pairs.old) }
 {
     check(borders::from_timetable(sheet), departures, given, pairs)
@@ -63,7 +63,7 @@ pub fn check_windows(
     departures: &[u32],
     rows: &[Row],
     pairs: &mut [i64],
-) -> CheckReply
+) -> Result<Checked, Refusal>
     ensures { CheckingCall (window_sheet sheet) departures.now rows.now result pairs.new pairs.old }
 {
     let given = gather(rows);
@@ -76,7 +76,7 @@ pub fn check_timetable(
     departures: &[u32],
     rows: &[Row],
     pairs: &mut [i64],
-) -> CheckReply
+) -> Result<Checked, Refusal>
     ensures { CheckingCall (timetable_sheet sheet) departures.now rows.now result pairs.new pairs.old }
 {
     let given = gather(rows);

@@ -4,7 +4,7 @@ ghost use Rattle.model.specs.Limits.{numbers_a_pair};
 ghost use Rattle.checker.specs.Judging.{listed_in, InArea, beside_reply};
 
 use model::limits::NUMBERS_A_PAIR;
-use model::{CheckReply, ListReply};
+use model::{Checked, Listed, Refusal};
 
 // Whether the pair is one of the first in the area.
 fn is_listed(pairs: &[i64], count: usize, last: u32, worst: i64) -> bool
@@ -25,13 +25,13 @@ fn is_listed(pairs: &[i64], count: usize, last: u32, worst: i64) -> bool
 }
 
 // What is told of the pair and the list's reply.
-pub fn beside(reply: ListReply, last: u32, worst: i64, pairs: &[i64]) -> CheckReply
+pub fn beside(reply: Result<Listed, Refusal>, last: u32, worst: i64, pairs: &[i64]) -> Result<Checked, Refusal>
     requires { InArea reply pairs.now }
     ensures { result ≡ beside_reply reply last worst pairs.now }
 {
     match reply {
-        ListReply::Refused(refusal) => {
-            return CheckReply::Refused(refusal);
+        Err(refusal) => {
+            return Err(refusal);
         }
         ListReply::Listed {
             pairs: count,

@@ -13,7 +13,7 @@ ghost use Rattle.search.specs.Setting.{outset_of};
 ghost use Rattle.planner.specs.Outcome.{choice_so};
 ghost use Rattle.planner.specs.Choosing.{ChoosingCall};
 
-use model::{Admission, ChoiceReply, Refusal, Sheet, TimetableSheet, WindowSheet};
+use model::{PlanPair, Refusal, Sheet, TimetableSheet, WindowSheet};
 use recording::{put_times, put_trains};
 use search::Outset;
 use search::round::round_from;
@@ -21,13 +21,13 @@ use search::start::{ordinary, start_from};
 
 // Chooses for a sheet of either form: the train of each order, and the departure, the arrival and the window of each train, the window 0 in the timetable
 // form.
-pub fn choose(sheet: Sheet, wish: u32, train_of_order: &mut [u8], times: &mut [u32]) -> ChoiceReply
+pub fn choose(sheet: Sheet, wish: u32, train_of_order: &mut [u8], times: &mut [u32]) -> Result<PlanPair, Refusal>
     ensures { ChoosingCall (sheet_of sheet) wish result (areas train_of_order.new times.new)
         (areas train_of_order.old times.old) }
 {
     let tested = room::for_choosing(sheet, train_of_order.len(), times.len());
-    if let Admission::Refused(refusal) = tested {
-        return ChoiceReply::Refused(refusal);
+    if let Err(refusal) = tested {
+        return Err(refusal);
     }
     choose_from(sheet, ordinary(sheet), wish, train_of_order, times)
 }
@@ -40,14 +40,14 @@ pub fn choose_from(
     wish: u32,
     train_of_order: &mut [u8],
     times: &mut [u32],
-) -> ChoiceReply
+) -> Result<PlanPair, Refusal>
     requires admitted { Admitted (sheet_of sheet) × PlanRoom (sheet_of sheet) (areas train_of_order.old times.old) }
     requires sets { Sets (sheet_of sheet) (outset_of sheet.order_count outset) }
     ensures { ChoiceTold (sheet_of sheet) (chosen_from (sheet_of sheet) (outset_of sheet.order_count outset) wish) result
         (areas train_of_order.new times.new) (areas train_of_order.old times.old) }
 {
     let mut progress = start_from(outset);
-    let mut choice = ChoiceReply::Refused(Refusal::NoSchedule);
+    let mut choice = Err(Refusal::NoSchedule);
     while !progress.ended & (progress.last <= wish) {
         progress = round_from(progress, sheet, outset);
         if progress.better & (progress.last <= wish) {
@@ -67,14 +67,14 @@ pub fn choose_from(
 }
 
 // What is told of the choice so far: 11 where nothing was chosen and the last pair is not in time.
-fn told(choice: ChoiceReply, in_time: bool) -> ChoiceReply
+fn told(choice: Result<PlanPair, Refusal>, in_time: bool) -> Result<PlanPair, Refusal>
     ensures { result ≡ choice_so choice in_time }
 {
     if in_time {
         return choice;
     }
     let ChoiceReply::Chosen { .. } = choice else {
-        return ChoiceReply::Refused(Refusal::WishTooEarly);
+        return Err(Refusal::WishTooEarly);
     };
     choice
 }
@@ -85,7 +85,7 @@ pub fn choose_windows(
     wish: u32,
     train_of_order: &mut [u8],
     times: &mut [u32],
-) -> ChoiceReply
+) -> Result<PlanPair, Refusal>
     ensures { ChoosingCall (window_sheet sheet) wish result (areas train_of_order.new times.new)
         (areas train_of_order.old times.old) }
 {
@@ -98,7 +98,7 @@ pub fn choose_timetable(
     wish: u32,
     train_of_order: &mut [u8],
     times: &mut [u32],
-) -> ChoiceReply
+) -> Result<PlanPair, Refusal>
     ensures { ChoosingCall (timetable_sheet sheet) wish result (areas train_of_order.new times.new)
         (areas train_of_order.old times.old) }
 {

@@ -8,8 +8,8 @@ use Rattle.model.specs.Limits.{numbers_a_pair, numbers_a_train}
 use Rattle.model.specs.Lateness.{Pair}
 use Rattle.model.specs.Admission.{Admitted}
 use Rattle.model.specs.declared.Refusal.{Refusal}
-use Rattle.model.specs.declared.ListReply.{ListReply}
-use Rattle.model.specs.declared.ListReply.TheVariants.{Listed, Refused}
+use Rattle.std.specs.Prelude.{Err}
+use Rattle.model.specs.Replies.{ListReply}
 use Rattle.rounds.specs.Recording.{Entry}
 use Rattle.rounds.specs.Answers.{Answer, refused, given, Listing, list, last_arrival_in}
 use Rattle.rounds.specs.Areas.{PlanAreas, ListRoom, list_reply, pair_numbers, plan_times, plan_left}
@@ -84,10 +84,10 @@ module _ (text : List ℕ) (names : NamePlaces) (s : Sheet) where
         room : ListRoom s p.lent
         room = omega (arith, p.pairs_lent, bound_most s a)
 
-        refusal : (q : Refusal) (x : Answer Listing) → Refused q ≡ list_reply x → refusal_line q ≡ answer_bytes text names s x
+        refusal : (q : Refusal) (x : Answer Listing) → Err q ≡ list_reply x → refusal_line q ≡ answer_bytes text names s x
         refusal q (refused r) e = let same : q ≡ r = cc in ap refusal_line same
         refusal q (given l) e = absurd (let z : ◌≡◌ {A = ℕ} 0 1 = cc in omega arith)
 
         go : (r : ListReply) → ListingCall s r p.left p.lent → ListBytes r text names s p.left bytes → bytes ≡ expected
-        go (Refused q) call printed = printed ∙ refusal q (list s) (call.equal.replied ∙ ap list_reply (list_of_rounds s p.lent a room))
-        go (Listed count rounds) call printed = plan_before count rounds p.left p.lent (has_listed s count rounds p.left p.lent call) printed
+        go (Err q) call printed = printed ∙ refusal q (list s) (call.equal.replied ∙ ap list_reply (list_of_rounds s p.lent a room))
+        go (Ok l) call printed = plan_before l.pairs l.rounds p.left p.lent (has_listed s l.pairs l.rounds p.left p.lent call) printed

@@ -10,8 +10,8 @@ use Rattle.model.specs.Admission.{Admitted}
 use Rattle.model.specs.Refusal.{returned}
 use Rattle.model.specs.declared.Refusal.{Refusal}
 use Rattle.model.specs.declared.Refusal.TheVariants.{NoSchedule}
-use Rattle.model.specs.declared.Admission.{Admission}
-use Rattle.model.specs.declared.Admission.TheVariants as tests
+use Rattle.std.specs.Prelude.{Ok, Err}
+use Rattle.model.specs.Replies.{Admission}
 use Rattle.rounds.specs.Answers.{Answer, given, Listing, list}
 use Rattle.rounds.specs.Areas.{pair_numbers, time_numbers, plan_times}
 use Rattle.rounds.proofs.AreaLaws.{pair_numbers_length, plan_times_length}
@@ -102,10 +102,10 @@ module _ (text : List ℕ) (names : NamePlaces) (named : NamesLie text names) (s
 -- ---- whatever is printed
 
 module _ (text : List ℕ) (bytes : List ℕ) where
-  admitted_fits : (x : Admission) (names : NamePlaces) (s : Sheet) → NamesLie text names → (x ≡ tests.Granted → Admitted s)
-      → ((q : Refusal) → x ≡ tests.Refused q → returned q < 2 ^ 64) → AdmittedBytes x text names s bytes → length bytes ≤ most_printed
-  admitted_fits (tests.Refused q) names s named read line e = rw e (omega (arith, refusal_line_short q (line q refl)))
-  admitted_fits tests.Granted names s named read line p = rw (as_before text names s bytes (read refl) p) (answer_short text names named s (read refl))
+  admitted_fits : (x : Admission) (names : NamePlaces) (s : Sheet) → NamesLie text names → (x ≡ Ok tt → Admitted s)
+      → ((q : Refusal) → x ≡ Err q → returned q < 2 ^ 64) → AdmittedBytes x text names s bytes → length bytes ≤ most_printed
+  admitted_fits (Err q) names s named read line e = rw e (omega (arith, refusal_line_short q (line q refl)))
+  admitted_fits (Ok _) names s named read line p = rw (as_before text names s bytes (read refl) p) (answer_short text names named s (read refl))
 
   pub text_fits : length text < 2 ^ 64 → TextBytes text bytes → length bytes ≤ most_printed
   unfolding reading

@@ -6,7 +6,7 @@ use Rattle.numbers.specs.Over.{over}
 use Rattle.model.specs.Sheet.{Sheet}
 use Rattle.model.specs.Limits.{order_counts, most_time_numbers}
 use Rattle.model.specs.Admission.{Admitted}
-use Rattle.model.specs.declared.ListReply.TheVariants.{Listed}
+use Rattle.model.specs.Replies.{listed_as}
 use Rattle.rounds.specs.Answers.{Answer, refused, given, Listing, list, last_arrival_in}
 use Rattle.rounds.specs.Areas.{PlanAreas, PlanRoom, list_room, list_to, choose_to, list_reply, list_left, pair_numbers}
 use Rattle.rounds.proofs.AimLaws.{whole}
@@ -30,11 +30,11 @@ pub record HasListed (s : Sheet) (count rounds : ℕ) (left found : List ℤ) : 
   pub area : left ≡ over (pair_numbers listing.pairs) found
 
 module _ (s : Sheet) (count rounds : ℕ) (left found : List ℤ) where
-  pub has_listed : ListingCall s (Listed count rounds) left found → HasListed s count rounds left found
+  pub has_listed : ListingCall s (listed_as count rounds) left found → HasListed s count rounds left found
   unfolding list_to list_reply list_left
   has_listed call = go (list_to s found) refl call.equal.replied call.equal.areas_left
     where
-      go : (x : Answer Listing) → list_to s found ≡ x → Listed count rounds ≡ list_reply x → left ≡ list_left x found
+      go : (x : Answer Listing) → list_to s found ≡ x → listed_as count rounds ≡ list_reply x → left ≡ list_left x found
           → HasListed s count rounds left found
       go (refused r) u e f = absurd (let z : ◌≡◌ {A = ℕ} 0 1 = cc in omega arith)
       go (given l) u e f =

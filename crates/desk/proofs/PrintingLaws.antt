@@ -9,12 +9,9 @@ use Rattle.model.specs.Memory.{sheet_of}
 use Rattle.model.specs.Limits.{order_counts, numbers_a_pair, numbers_a_train, most_pair_numbers, most_time_numbers}
 use Rattle.model.specs.declared.Form.{Form}
 use Rattle.model.specs.declared.Form.TheVariants.{Windows, Timetable}
-use Rattle.model.specs.declared.Admission.TheVariants as tests
+use Rattle.std.specs.Prelude.{Ok, Err}
+use Rattle.model.specs.Replies.{ListReply, ChoiceReply, listed_as}
 use Rattle.model.specs.declared.Refusal.{Refusal}
-use Rattle.model.specs.declared.ListReply.{ListReply}
-use Rattle.model.specs.declared.ListReply.TheVariants as list
-use Rattle.model.specs.declared.ChoiceReply.{ChoiceReply}
-use Rattle.model.specs.declared.ChoiceReply.TheVariants.{Refused}
 use Rattle.rounds.specs.Answers.{given, last_arrival_in}
 use Rattle.rounds.specs.Areas.{PlanAreas, choice_reply}
 use Rattle.fields.specs.declared.NamePlaces.{NamePlaces}
@@ -57,10 +54,10 @@ module _ (text : List ℕ) (names : NamePlaces) (s : Sheet) (x : ListReply) (lef
         prints = p.prints;
       }
 
-  pub listing_refused : (q : Refusal) → x ≡ list.Refused q → Prints (refusal_line q) found r after → Put (SheetBytes text names s) found r after
+  pub listing_refused : (q : Refusal) → x ≡ Err q → Prints (refusal_line q) found r after → Put (SheetBytes text names s) found r after
   listing_refused q e h = put_sheet (rw e (record { bytes = refusal_line q; of_text = refl; prints = h }))
 
-  pub plan_put : (count rounds : ℕ) → x ≡ list.Listed count rounds → Put (PlanBytes text names s count rounds left) found r after
+  pub plan_put : (count rounds : ℕ) → x ≡ listed_as count rounds → Put (PlanBytes text names s count rounds left) found r after
       → Put (SheetBytes text names s) found r after
   plan_put count rounds e p = put_sheet (rw e p)
 
@@ -77,7 +74,7 @@ module _ (s : Sheet) (count rounds : ℕ) (pairs : List ℤ) (x : ChoiceReply) (
     pub call : ChoosingCall s (last_arrival_in (pairs_in count pairs)) chosen left lent
     pub is : x ≡ chosen
 
-  pub chosen_last : ((found : List ℤ) × ListingCall s (list.Listed count rounds) pairs found) → (wish : ℕ) → ForLast count pairs wish
+  pub chosen_last : ((found : List ℤ) × ListingCall s (listed_as count rounds) pairs found) → (wish : ℕ) → ForLast count pairs wish
       → (lent : PlanAreas) → length lent.trains ≡ order_counts.most → length lent.times ≡ most_time_numbers → ChoosingCall s wish x left lent
       → ChosenLast
   chosen_last (found, listing) wish for_last lent trains_lent times_lent call =
@@ -94,7 +91,7 @@ module _ (s : Sheet) (count rounds : ℕ) (pairs : List ℤ) (x : ChoiceReply) (
         is = is;
       }
 
-  pub never_refused : ChosenLast → (q : Refusal) → ¬ (x ≡ Refused q)
+  pub never_refused : ChosenLast → (q : Refusal) → ¬ (x ≡ Err q)
   unfolding choice_reply
   never_refused c q e = let is = c.is in let z : ◌≡◌ {A = ℕ} 0 1 = cc in omega arith
 
@@ -126,10 +123,10 @@ module _ (text : List ℕ) (form : Form) (by_form : form ≡ form_of text) (x : 
       subst (λ (f : Form). Put (ReadBytes text (reading f text)) found r after) by_form
       (subst (λ (y : Reading). Put (ReadBytes text y) found r after) read p)
 
-  pub reading_refused : (q : Refusal) → x.admission ≡ tests.Refused q → Prints (refusal_line q) found r after → Put (TextBytes text) found r after
+  pub reading_refused : (q : Refusal) → x.admission ≡ Err q → Prints (refusal_line q) found r after → Put (TextBytes text) found r after
   reading_refused q e h = put_text (rw e (record { bytes = refusal_line q; of_text = refl; prints = h }))
 
-  pub sheet_put : x.admission ≡ tests.Granted → Put (SheetBytes text x.names (sheet_of x.sheet)) found r after → Put (TextBytes text) found r after
+  pub sheet_put : x.admission ≡ Ok tt → Put (SheetBytes text x.names (sheet_of x.sheet)) found r after → Put (TextBytes text) found r after
   sheet_put e p = put_text (rw e p)
 
 -- ---- all of it is printed

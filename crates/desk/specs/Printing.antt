@@ -8,11 +8,8 @@ use Rattle.model.specs.Lateness.{Pair}
 use Rattle.model.specs.Limits.{order_counts, numbers_a_pair, numbers_a_train, most_pair_numbers, most_time_numbers}
 use Rattle.model.specs.declared.Form.{Form}
 use Rattle.model.specs.declared.Form.TheVariants.{Windows, Timetable}
-use Rattle.model.specs.declared.Admission.{Admission}
-use Rattle.model.specs.declared.Admission.TheVariants as tests
-use Rattle.model.specs.declared.ListReply.{ListReply}
-use Rattle.model.specs.declared.ListReply.TheVariants as list
-use Rattle.model.specs.declared.ChoiceReply.TheVariants.{Chosen}
+use Rattle.std.specs.Prelude.{Ok, Err}
+use Rattle.model.specs.Replies.{Admission, ListReply, chosen_as}
 use Rattle.rounds.specs.Answers.{last_arrival_in}
 use Rattle.rounds.specs.Areas.{PlanAreas}
 use Rattle.fields.specs.declared.NamePlaces.{NamePlaces}
@@ -38,15 +35,15 @@ pub record PlanBytes (text : List ℕ) (names : NamePlaces) (s : Sheet) (count r
   pub trains_lent : length lent.trains ≡ order_counts.most
   pub times_lent : length lent.times ≡ most_time_numbers
   -- "`plan` wishes for the last listed arrival", and that wish is never refused
-  pub call : ChoosingCall s (last_arrival_in (pairs_in count pairs)) (Chosen pair.last pair.worst) left lent
+  pub call : ChoosingCall s (last_arrival_in (pairs_in count pairs)) (chosen_as pair.last pair.worst) left lent
   -- "and prints as before": the listed pairs, n trains and q times, which stand at the fronts of the areas, and the count
   pub printed : bytes
       ≡ plan_bytes text names (take (numbers_a_pair * count) pairs) (take s.orders left.trains) (take (numbers_a_train * s.trains) left.times) rounds
 
 -- by what the listing call says: its refusal, or that
 abbrev pub ListBytes : ListReply → (text : List ℕ) → NamePlaces → Sheet → (pairs : List ℤ) (bytes : List ℕ) → Type 0
-ListBytes (list.Refused refusal) text names s pairs bytes = bytes ≡ refusal_line refusal
-ListBytes (list.Listed count rounds) text names s pairs bytes = PlanBytes text names s count rounds pairs bytes
+ListBytes (Err refusal) text names s pairs bytes = bytes ≡ refusal_line refusal
+ListBytes (Ok l) text names s pairs bytes = PlanBytes text names s l.pairs l.rounds pairs bytes
 
 -- so of a sheet: its pairs are listed in an area of the greatest size
 pub record SheetBytes (text : List ℕ) (names : NamePlaces) (s : Sheet) (bytes : List ℕ) : Type 0 where
@@ -59,8 +56,8 @@ pub record SheetBytes (text : List ℕ) (names : NamePlaces) (s : Sheet) (bytes 
 
 -- by what the reading call says: "A refusal prints only `E,number,returned`", and of a sheet its pairs are listed
 abbrev pub AdmittedBytes : Admission → (text : List ℕ) → NamePlaces → Sheet → (bytes : List ℕ) → Type 0
-AdmittedBytes (tests.Refused refusal) text names s bytes = bytes ≡ refusal_line refusal
-AdmittedBytes tests.Granted text names s bytes = SheetBytes text names s bytes
+AdmittedBytes (Err refusal) text names s bytes = bytes ≡ refusal_line refusal
+AdmittedBytes (Ok _) text names s bytes = SheetBytes text names s bytes
 
 -- of what a reading call gave
 abbrev pub ReadBytes : (text : List ℕ) → Reading → (bytes : List ℕ) → Type 0

@@ -10,7 +10,7 @@ ghost use Rattle.desk.specs.Printing.{form_of, PlanBytes, SheetBytes, TextBytes,
 use areas::{first_orders, first_pairs, first_times, last_arrival};
 use fields::NamePlaces;
 use model::limits::{MOST_ORDERS, MOST_PAIR_NUMBERS, MOST_PRINTED, MOST_TIME_NUMBERS};
-use model::{Admission, ChoiceReply, Form, ListReply, Sheet};
+use model::{Form, Sheet};
 use writing::Printed;
 
 // Reads a text, lists the pairs of its sheet, chooses the plan for the last of them, and prints it or the refusal to the front of the page, which is long
@@ -35,7 +35,7 @@ fn put_text(text: &[u8], out: &mut [u8]) -> Printed
     let admission = reading.admission;
     let sheet = reading.sheet;
     let names = reading.names;
-    if let Admission::Refused(refusal) = admission {
+    if let Err(refusal) = admission {
         return printer::print_refusal(refusal, out);
     }
     put_sheet(text, names, sheet, out)
@@ -65,7 +65,7 @@ fn put_sheet(text: &[u8], names: NamePlaces, sheet: Sheet, out: &mut [u8]) -> Pr
             pairs: count,
             rounds,
         } => put_plan(text, names, sheet, &pairs, count, rounds, out),
-        ListReply::Refused(refusal) => printer::print_refusal(refusal, out),
+        Err(refusal) => printer::print_refusal(refusal, out),
     }
 }
 
@@ -89,7 +89,7 @@ fn put_plan(
     let wish = last_arrival(pairs, count);
     let choice = choosing::choose(sheet, wish, &mut train_of_order, &mut times);
     // That wish is never refused: the contract says that a plan is chosen.
-    if let ChoiceReply::Refused(refusal) = choice {
+    if let Err(refusal) = choice {
         return printer::print_refusal(refusal, out);
     }
     let listed = first_pairs(pairs, count);

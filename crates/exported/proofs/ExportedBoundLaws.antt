@@ -2,9 +2,9 @@
 use Rattle.std.specs.Prelude.{◌≡◌, refl, ◌≤◌}
 use Rattle.std.proofs.Common.{◌∙◌, ap, subst, arith}
 use Rattle.model.specs.Sheet.{Sheet}
-use Rattle.model.specs.Refusal.{of_bound, number_of, returned_of}
-use Rattle.model.specs.declared.BoundReply.{BoundReply}
-use Rattle.model.specs.declared.BoundReply.TheVariants.{Bounded, Refused}
+use Rattle.model.specs.Refusal.{of_reply, number_of, returned_of}
+use Rattle.std.specs.Prelude.{Ok, Err}
+use Rattle.model.specs.Replies.{BoundReply}
 use Rattle.bound.specs.BoundCall.{BoundCall}
 use Rattle.bound.proofs.BoundCallLaws.{given_so}
 use Rattle.exported.proofs.ExportedLaws.{numbered}
@@ -12,18 +12,18 @@ use Rattle.exported.specs.ExportedBound.{bound_of, ExportedBound}
 use Rattle.exported.specs.declared.bounding.Bound.{Bound}
 
 -- the cause of a reply
-bound_cause : (x : BoundReply) → (bound_of x).cause ≡ record { number = number_of (of_bound x); returned = returned_of (of_bound x) }
-bound_cause (Bounded most) = refl
-bound_cause (Refused r) = refl
+bound_cause : (x : BoundReply) → (bound_of x).cause ≡ record { number = number_of (of_reply x); returned = returned_of (of_reply x) }
+bound_cause (Ok most) = refl
+bound_cause (Err r) = refl
 
 -- a reply without a number gives a figure, and another gives none
-figure_given : (x : BoundReply) → number_of (of_bound x) ≡ 0 → x ≡ Bounded (bound_of x).most
-figure_given (Bounded most) e = refl
-figure_given (Refused r) e = absurd (omega (arith, numbered r))
+figure_given : (x : BoundReply) → number_of (of_reply x) ≡ 0 → x ≡ Ok (bound_of x).most
+figure_given (Ok most) e = refl
+figure_given (Err r) e = absurd (omega (arith, numbered r))
 
-none_given : (x : BoundReply) → 1 ≤ number_of (of_bound x) → (bound_of x).most ≡ 0
-none_given (Bounded most) l = absurd (omega arith)
-none_given (Refused r) l = refl
+none_given : (x : BoundReply) → 1 ≤ number_of (of_reply x) → (bound_of x).most ≡ 0
+none_given (Ok most) l = absurd (omega arith)
+none_given (Err r) l = refl
 
 -- WHAT A BOUND CALL OF THE LIBRARY PROMISES, THE EXPORTED ONE DOES
 pub exported_bound : (s : Sheet) (x : BoundReply) (r : Bound) → BoundCall s x → r ≡ bound_of x → ExportedBound s r

@@ -3,8 +3,8 @@ use Rattle.std.specs.Prelude.{◌≡◌, refl, List, ℕ, ◌≤◌}
 use Rattle.std.proofs.Common.{arith}
 use Rattle.model.specs.Sheet.{Sheet}
 use Rattle.model.specs.Refusal.{number, returned}
-use Rattle.model.specs.declared.Admission.{Admission}
-use Rattle.model.specs.declared.Admission.TheVariants.{Granted, Refused}
+use Rattle.std.specs.Prelude.{Ok, Err}
+use Rattle.model.specs.Replies.{Admission}
 use Rattle.model.specs.declared.Refusal.{Refusal}
 use Rattle.model.specs.declared.Refusal.TheVariants.{Malformed, OutOfRange, KindTooEarly, TooMany, KindMissing, OutOfOrder, TooFewPlaces}
 use Rattle.model.specs.declared.Refusal.TheVariants.{NoSchedule, AreaTooShort, WishTooEarly, WrongRows, RuleBroken, GoneWrong}
@@ -36,7 +36,7 @@ cause_is r n l e f = rw (e, f)
 pub exported_reading :
     {D R : Type 0} (text : List ℕ) (d x : D) (a : Admission) (s : Sheet) {names : NamePlaces} (c : Cause) (defined given : R)
     → ReadingCall text d x a s names → c ≡ cause_in a → given ≡ defined → ExportedReading text defined given c s
-exported_reading text d x Granted s c defined given call told e =
+exported_reading text d x (Ok _) s c defined given call told e =
     rw told
     (record {
       equal = e;
@@ -47,7 +47,7 @@ exported_reading text d x Granted s c defined given call told e =
       seven = λ u. absurd (omega arith);
       no_sheet = λ u. absurd (omega arith);
     })
-exported_reading text d x (Refused r) s c defined given call told e =
+exported_reading text d x (Err r) s c defined given call told e =
     let t = call.refused r refl in
     rw told
     (record {

@@ -2,11 +2,9 @@
 use Rattle.std.specs.Prelude.{◌≡◌, refl, List, ℕ, ◌≤◌, ℤ}
 use Rattle.std.proofs.Common.{◌∙◌, ap, subst, arith}
 use Rattle.model.specs.Sheet.{Sheet}
-use Rattle.model.specs.Refusal.{of_listing, of_choice, number_of, returned_of}
-use Rattle.model.specs.declared.ListReply.{ListReply}
-use Rattle.model.specs.declared.ListReply.TheVariants as listing
-use Rattle.model.specs.declared.ChoiceReply.{ChoiceReply}
-use Rattle.model.specs.declared.ChoiceReply.TheVariants as choosing
+use Rattle.model.specs.Refusal.{of_reply, number_of, returned_of}
+use Rattle.std.specs.Prelude.{Err}
+use Rattle.model.specs.Replies.{ListReply, ChoiceReply}
 use Rattle.rounds.specs.RoundsBound.{rounds_bound}
 use Rattle.rounds.specs.Areas.{PlanAreas}
 use Rattle.rounds.specs.ListedPairs.{Front}
@@ -19,24 +17,24 @@ use Rattle.exported.specs.declared.Listing.{Listing}
 use Rattle.exported.specs.declared.Choice.{Choice}
 
 -- the cause of a reply
-list_cause : (x : ListReply) → (listing_of x).cause ≡ record { number = number_of (of_listing x); returned = returned_of (of_listing x) }
-list_cause (listing.Listed pairs rounds) = refl
-list_cause (listing.Refused r) = refl
+list_cause : (x : ListReply) → (listing_of x).cause ≡ record { number = number_of (of_reply x); returned = returned_of (of_reply x) }
+list_cause (Ok l) = refl
+list_cause (Err r) = refl
 
-choice_cause : (x : ChoiceReply) → (choice_of x).cause ≡ record { number = number_of (of_choice x); returned = returned_of (of_choice x) }
-choice_cause (choosing.Chosen last worst) = refl
-choice_cause (choosing.Refused r) = refl
+choice_cause : (x : ChoiceReply) → (choice_of x).cause ≡ record { number = number_of (of_reply x); returned = returned_of (of_reply x) }
+choice_cause (Ok p) = refl
+choice_cause (Err r) = refl
 
 -- what a listing call of the library promises, the exported one does
 module _ (s : Sheet) (left found : List ℤ) where
   -- a reply without a number is an accepted call's
-  accepted_list : (x : ListReply) → ListingCall s x left found → number_of (of_listing x) ≡ 0 → Front s (pairs_in (listing_of x).pairs left)
-  accepted_list (listing.Listed pairs rounds) call e = call.front pairs rounds refl
-  accepted_list (listing.Refused r) call e = absurd (omega (arith, numbered r))
+  accepted_list : (x : ListReply) → ListingCall s x left found → number_of (of_reply x) ≡ 0 → Front s (pairs_in (listing_of x).pairs left)
+  accepted_list (Ok l) call e = call.front l.pairs l.rounds refl
+  accepted_list (Err r) call e = absurd (omega (arith, numbered r))
 
   few_told : (x : ListReply) → ListingCall s x left found → ((listing_of x).pairs ≤ rounds_bound s) × ((listing_of x).rounds ≤ rounds_bound s)
-  few_told (listing.Listed pairs rounds) call = call.within pairs rounds refl
-  few_told (listing.Refused r) call = (omega arith, omega arith)
+  few_told (Ok l) call = call.within l.pairs l.rounds refl
+  few_told (Err r) call = (omega arith, omega arith)
 
   pub exported_listing : (x : ListReply) (r : Listing) → ListingCall s x left found → r ≡ listing_of x → ExportedListing s r left found
   exported_listing x r call e =
@@ -56,9 +54,9 @@ module _ (s : Sheet) (left found : List ℤ) where
 
 -- and so with choosing
 module _ (s : Sheet) (wish : ℕ) (left found : PlanAreas) where
-  gives : (x : ChoiceReply) → number_of (of_choice x) ≡ 0 → Gives x (pair_given (choice_of x))
-  gives (choosing.Chosen last worst) e = refl
-  gives (choosing.Refused r) e = absurd (omega (arith, numbered r))
+  gives : (x : ChoiceReply) → number_of (of_reply x) ≡ 0 → Gives x (pair_given (choice_of x))
+  gives (Ok p) e = refl
+  gives (Err r) e = absurd (omega (arith, numbered r))
 
   pub exported_choice : (x : ChoiceReply) (r : Choice) → ChoosingCall s wish x left found → r ≡ choice_of x → ExportedChoice s wish r left found
   exported_choice x r call e =

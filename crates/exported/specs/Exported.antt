@@ -5,8 +5,8 @@ use Rattle.model.specs.Limits.{Inside, ◌–◌}
 use Rattle.model.specs.Refusal.{number, returned}
 use Rattle.model.specs.Admission.{Admitted}
 use Rattle.model.specs.declared.Refusal.{Refusal}
-use Rattle.model.specs.declared.Admission.{Admission}
-use Rattle.model.specs.declared.Admission.TheVariants.{Granted, Refused}
+use Rattle.std.specs.Prelude.{Ok, Err}
+use Rattle.model.specs.Replies.{Admission}
 use Rattle.sheet.specs.Sheets.{window_reading, timetable_reading}
 use Rattle.sheet.specs.Reading.{lines_in}
 use Rattle.sheet.specs.ReadingCall.{tells_line, FewPlaces}
@@ -22,8 +22,8 @@ abbrev pub cause_of : Refusal → Cause
 cause_of r = record { number = number r; returned = returned r }
 
 abbrev pub cause_in : Admission → Cause
-cause_in Granted = no_cause
-cause_in (Refused r) = cause_of r
+cause_in (Ok _) = no_cause
+cause_in (Err r) = cause_of r
 
 -- ---- reading
 

@@ -4,8 +4,8 @@ use Rattle.std.specs.Prelude.{◌≡◌, ◌↔◌, ◌⊎◌, List, ℕ, ◌*�
 use Rattle.model.specs.Sheet.{Sheet, places}
 use Rattle.model.specs.Limits.{numbers_a_pair}
 use Rattle.model.specs.Admission.{Admitted}
-use Rattle.model.specs.declared.BoundReply.{BoundReply}
-use Rattle.model.specs.declared.BoundReply.TheVariants.{Bounded, Refused}
+use Rattle.std.specs.Prelude.{Ok, Err}
+use Rattle.model.specs.Replies.{BoundReply}
 use Rattle.rounds.specs.Recording.{Entry, listed}
 use Rattle.rounds.specs.Rounds.{ended, rounds_in, start, rounds, recorded_after}
 use Rattle.rounds.specs.RoundsBound.{rounds_bound}
@@ -16,8 +16,8 @@ use Rattle.exported.specs.Exported.{no_cause, cause_of}
 use Rattle.exported.specs.declared.bounding.Bound.{Bound}
 
 abbrev pub bound_of : BoundReply → Bound
-bound_of (Bounded most) = record { cause = no_cause; most = most }
-bound_of (Refused r) = record { cause = cause_of r; most = 0 }
+bound_of (Ok most) = record { cause = no_cause; most = most }
+bound_of (Err r) = record { cause = cause_of r; most = 0 }
 
 pub record ExportedBound (s : Sheet) (r : Bound) : Type 0 where
   pub equal : r ≡ bound_of (bound_reply (bound s))

@@ -7,10 +7,8 @@ use Rattle.model.specs.Booking.{Booked}
 use Rattle.model.specs.ShortTrains.{EmptyTrains}
 use Rattle.model.specs.Lateness.{Pair}
 use Rattle.model.specs.Admission.{Admitted}
-use Rattle.model.specs.declared.ListReply.{ListReply}
-use Rattle.model.specs.declared.ListReply.TheVariants as listing
-use Rattle.model.specs.declared.ChoiceReply.{ChoiceReply}
-use Rattle.model.specs.declared.ChoiceReply.TheVariants as choosing
+use Rattle.std.specs.Prelude.{Err}
+use Rattle.model.specs.Replies.{ListReply, ChoiceReply}
 use Rattle.rounds.specs.EntryPlan.{EntryPlan}
 use Rattle.rounds.specs.Prompt.{Prompt}
 use Rattle.rounds.specs.ChosenPair.{Best, TooEarly}
@@ -29,8 +27,8 @@ use Rattle.exported.specs.declared.Choice.{Choice}
 
 -- a listing call's reply
 abbrev pub listing_of : ListReply → Listing
-listing_of (listing.Listed pairs rounds) = record { cause = no_cause; pairs = pairs; rounds = rounds }
-listing_of (listing.Refused r) = record { cause = cause_of r; pairs = 0; rounds = 0 }
+listing_of (Ok l) = record { cause = no_cause; pairs = l.pairs; rounds = l.rounds }
+listing_of (Err r) = record { cause = cause_of r; pairs = 0; rounds = 0 }
 
 pub record ExportedListing (s : Sheet) (r : Listing) (left found : List ℤ) : Type 0 where
   pub equal : r ≡ listing_of (list_reply (list_to s found))
@@ -53,8 +51,8 @@ pub record ExportedListing (s : Sheet) (r : Listing) (left found : List ℤ) : T
 
 -- a choosing call's reply
 abbrev pub choice_of : ChoiceReply → Choice
-choice_of (choosing.Chosen last worst) = record { cause = no_cause; last = last; worst = worst }
-choice_of (choosing.Refused r) = record { cause = cause_of r; last = 0; worst = pos 0 }
+choice_of (Ok p) = record { cause = no_cause; last = p.last; worst = p.worst }
+choice_of (Err r) = record { cause = cause_of r; last = 0; worst = pos 0 }
 
 -- the pair that is given
 abbrev pub pair_given : Choice → Pair

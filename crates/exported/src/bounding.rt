@@ -3,7 +3,7 @@ ghost use Rattle.std.specs.Prelude.{◌≡◌};
 ghost use Rattle.exported.specs.ExportedBound.{bound_of};
 
 use crate::{Cause, cause_of};
-use model::BoundReply;
+use model::Refusal;
 
 // The figure that neither the rounds nor the pairs of any search of the sheet exceed, or the cause beside 0.
 #[repr(C)]
@@ -13,7 +13,7 @@ pub struct Bound {
     pub most: usize,
 }
 
-pub fn bound_of(reply: BoundReply) -> Bound
+pub fn bound_of(reply: Result<usize, Refusal>) -> Bound
     ensures { result ≡ bound_of reply }
 {
     match reply {
@@ -24,7 +24,7 @@ pub fn bound_of(reply: BoundReply) -> Bound
             },
             most: most,
         },
-        BoundReply::Refused(refusal) => Bound {
+        Err(refusal) => Bound {
             cause: cause_of(refusal),
             most: 0,
         },

@@ -8,7 +8,7 @@ ghost use Rattle.std.specs.Prelude.{◌≡◌};
 ghost use Rattle.exported.specs.Exported.{cause_of, cause_in};
 ghost use Rattle.exported.specs.ExportedPlanning.{listing_of, choice_of};
 
-use model::{Admission, ChoiceReply, ListReply, Refusal, TimetableSheet, WindowSheet};
+use model::{Listed, PlanPair, Refusal, TimetableSheet, WindowSheet};
 
 // Why an input is refused: document 01's number and returned value. 0 and 0 say that it is not.
 #[repr(C)]
@@ -55,27 +55,27 @@ pub struct Choice {
 pub fn cause_of(refusal: Refusal) -> Cause
     ensures { result ≡ cause_of refusal }
 {
-    let number = model::refusal_number(refusal);
-    let returned = model::refusal_returned(refusal);
+    let number = refusal.number();
+    let returned = refusal.returned();
     Cause {
         number: number,
         returned: returned,
     }
 }
 
-pub fn cause_in(admission: Admission) -> Cause
+pub fn cause_in(admission: Result<(), Refusal>) -> Cause
     ensures { result ≡ cause_in admission }
 {
     match admission {
-        Admission::Granted => Cause {
+        Ok(()) => Cause {
             number: 0,
             returned: 0,
         },
-        Admission::Refused(refusal) => cause_of(refusal),
+        Err(refusal) => cause_of(refusal),
     }
 }
 
-pub fn listing_of(reply: ListReply) -> Listing
+pub fn listing_of(reply: Result<Listed, Refusal>) -> Listing
     ensures { result ≡ listing_of reply }
 {
     match reply {
@@ -87,7 +87,7 @@ pub fn listing_of(reply: ListReply) -> Listing
             pairs: pairs,
             rounds: rounds,
         },
-        ListReply::Refused(refusal) => Listing {
+        Err(refusal) => Listing {
             cause: cause_of(refusal),
             pairs: 0,
             rounds: 0,
@@ -95,7 +95,7 @@ pub fn listing_of(reply: ListReply) -> Listing
     }
 }
 
-pub fn choice_of(reply: ChoiceReply) -> Choice
+pub fn choice_of(reply: Result<PlanPair, Refusal>) -> Choice
     ensures { result ≡ choice_of reply }
 {
     match reply {
@@ -107,7 +107,7 @@ pub fn choice_of(reply: ChoiceReply) -> Choice
             last: last,
             worst: worst,
         },
-        ChoiceReply::Refused(refusal) => Choice {
+        Err(refusal) => Choice {
             cause: cause_of(refusal),
             last: 0,
             worst: 0,

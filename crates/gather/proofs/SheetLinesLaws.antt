@@ -4,7 +4,7 @@ use Rattle.std.proofs.Common.{ltb-true, arith}
 use Rattle.model.specs.Limits.{Inside, gap_range}
 use Rattle.fields.proofs.FieldLaws.{inside_means}
 use Rattle.model.specs.declared.Refusal.TheVariants.{Malformed}
-use Rattle.model.specs.declared.Admission.TheVariants.{Granted}
+use Rattle.std.specs.Prelude.{Ok}
 use Rattle.model.specs.declared.Form.{Form}
 use Rattle.model.specs.declared.Form.TheVariants.{Windows, Timetable}
 use Rattle.rows.proofs.FaultLaws.{NoFault, refused_not_granted, passed_granted, no_fault}
@@ -46,12 +46,12 @@ good_counts form s h = record { windows = h.windows.few; trains = h.trains.few }
 
 module _ (line : ℕ) (s : SheetLines) where
   -- a line without a fault is of the form, and passed the tests of its kind
-  pub no_line_fault : (form : Form) (l : Line) → line_fault form line s l ≡ Granted → NoFault (tests_of (leb s.above (kind l)) s l)
+  pub no_line_fault : (form : Form) (l : Line) → line_fault form line s l ≡ Ok tt → NoFault (tests_of (leb s.above (kind l)) s l)
   unfolding line_fault kind_tests
   no_line_fault form l e = no_fault line (kind_tests s l) (passed_granted (of_form form l) (Malformed line) (first_fault line (kind_tests s l)) e).1
 
   -- there may be one more of its kind
-  pub one_more : (form : Form) (l : Line) → line_fault form line s l ≡ Granted → OneMore s l
+  pub one_more : (form : Form) (l : Line) → line_fault form line s l ≡ Ok tt → OneMore s l
   one_more form l e = go _ l (no_line_fault form l e)
     where
       go : (late : Bool) (l : Line) → NoFault (tests_of late s l) → OneMore s l
@@ -62,11 +62,11 @@ module _ (line : ℕ) (s : SheetLines) where
       go late (L.Order o) e = order_room late s.orders o e
 
   -- and it keeps the lines good
-  pub lines_more : (form : Form) (l : Line) → line_fault form line s l ≡ Granted → Good form s → Good form (with_line s l)
+  pub lines_more : (form : Form) (l : Line) → line_fault form line s l ≡ Ok tt → Good form s → Good form (with_line s l)
   unfolding line_fault with_line
   lines_more form l e h = go form _ l e (no_line_fault form l e) h
     where
-      go : (form : Form) (late : Bool) (l : Line) → line_fault form line s l ≡ Granted → NoFault (tests_of late s l) → Good form s → Good form (with_line s l)
+      go : (form : Form) (late : Bool) (l : Line) → line_fault form line s l ≡ Ok tt → NoFault (tests_of late s l) → Good form s → Good form (with_line s l)
       go form late (L.Gap g) e k h =
           record { orders = h.orders; gap = λ l. gap_in_range late s.gap_count g k; windows = h.windows; trains = h.trains; paths = h.paths }
       go form late (L.Window w) e k h =

@@ -5,7 +5,7 @@ use Rattle.model.specs.Sheet.{places}
 use Rattle.model.specs.Limits.{inside, gap_range, window_counts, train_counts}
 use Rattle.model.specs.Admission.{passed}
 use Rattle.model.specs.declared.Refusal.TheVariants.{Malformed}
-use Rattle.model.specs.declared.Admission.{Admission}
+use Rattle.model.specs.Replies.{Admission}
 use Rattle.model.specs.declared.Form.{Form}
 use Rattle.model.specs.declared.Form.TheVariants.{Windows, Timetable}
 use Rattle.lines.specs.declared.Gap.{Gap}

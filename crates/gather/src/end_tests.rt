@@ -5,7 +5,7 @@ ghost use Rattle.gather.specs.Tests.{windows_complete, complete, end_fault};
 
 use crate::SheetLines;
 use crate::line_tests::by_windows;
-use model::{Admission, Form};
+use model::{Form, Refusal};
 use places::are_enough;
 use rows::faults::last_fault;
 
@@ -38,7 +38,7 @@ fn is_complete(form: Form, lines: SheetLines) -> bool
 }
 
 // The first fault after the last line.
-pub fn end_fault(form: Form, lines: SheetLines) -> Admission
+pub fn end_fault(form: Form, lines: SheetLines) -> Result<(), Refusal>
     requires { lines.trains.count ≤ train_counts.most }
     ensures { result ≡ end_fault form lines }
 {

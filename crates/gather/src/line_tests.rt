@@ -6,7 +6,7 @@ use crate::SheetLines;
 use crate::more_lines::kind_of;
 use lines::{Gap, Line};
 use model::limits::{LEAST_GAP, MOST_GAP, in_range};
-use model::{Admission, Form, Refusal};
+use model::{Form, Refusal};
 use rows::LineTests;
 use rows::faults::first_fault;
 use rows::order_lines::order_tests;
@@ -74,12 +74,12 @@ fn of_form(form: Form, read: Line) -> bool
 }
 
 // The first fault of a line; a line of the other form has fault 1.
-pub fn line_fault(form: Form, line: usize, lines: SheetLines, read: Line) -> Admission
+pub fn line_fault(form: Form, line: usize, lines: SheetLines, read: Line) -> Result<(), Refusal>
     requires { Counts lines }
     ensures { result ≡ line_fault form line lines read }
 {
     if of_form(form, read) {
         return first_fault(line, kind_tests(lines, read));
     }
-    Admission::Refused(Refusal::Malformed(line))
+    Err(Refusal::Malformed(line))
 }

@@ -11,7 +11,7 @@ use Rattle.model.specs.Memory.{sheet_of}
 use Rattle.model.specs.Admission.{Admitted}
 use Rattle.model.specs.Gone.{Gone, gone_trains, went, WentWell, went_well}
 use Rattle.model.proofs.GoneTestLaws.{decides_went_well}
-use Rattle.model.specs.declared.Admission.TheVariants.{Granted, Refused}
+use Rattle.std.specs.Prelude.{Ok, Err}
 use Rattle.model.specs.declared.Refusal.{Refusal}
 use Rattle.model.specs.declared.Refusal.TheVariants.{NoSchedule, GoneWrong}
 use Rattle.model.specs.declared.Row.{Row}
@@ -34,21 +34,21 @@ use Rattle.gone.specs.declared.Ready.{Ready}
 -- ---- what the tests say is what the answer is
 
 module _ {A : Type 0} (s : Sheet) (g : Gone) (x : Answer A) where
-  pub gone_refused : (f : Refusal) → gone_tested s g ≡ Refused f → after_gone s g x ≡ refused f
+  pub gone_refused : (f : Refusal) → gone_tested s g ≡ Err f → after_gone s g x ≡ refused f
   unfolding after_gone
   gone_refused f e = go (went_well s g) (outnumbered s g) e
     where
-      go : (b d : Bool) → cond b (cond d (Refused NoSchedule) Granted) (Refused GoneWrong) ≡ Refused f
+      go : (b d : Bool) → cond b (cond d (Err NoSchedule) (Ok tt)) (Err GoneWrong) ≡ Err f
           → cond b (cond d (refused NoSchedule) x) (refused GoneWrong) ≡ refused f
       go true true u = let z : NoSchedule ≡ f = cc in ap refused z
       go true false u = absurd (let z : ◌≡◌ {A = ℕ} 0 1 = cc in omega arith)
       go false d u = let z : GoneWrong ≡ f = cc in ap refused z
 
-  pub gone_granted : gone_tested s g ≡ Granted → after_gone s g x ≡ x
+  pub gone_granted : gone_tested s g ≡ Ok tt → after_gone s g x ≡ x
   unfolding after_gone
   gone_granted e = go (went_well s g) (outnumbered s g) e
     where
-      go : (b d : Bool) → cond b (cond d (Refused NoSchedule) Granted) (Refused GoneWrong) ≡ Granted
+      go : (b d : Bool) → cond b (cond d (Err NoSchedule) (Ok tt)) (Err GoneWrong) ≡ Ok tt
           → cond b (cond d (refused NoSchedule) x) (refused GoneWrong) ≡ x
       go true true u = absurd (let z : ◌≡◌ {A = ℕ} 0 1 = cc in omega arith)
       go true false u = refl
@@ -56,7 +56,7 @@ module _ {A : Type 0} (s : Sheet) (g : Gone) (x : Answer A) where
 
 -- ---- how the code comes to them
 
-pub none_set : (m : memory.Sheet) (r : Ready) (f : Refusal) → r.admission ≡ Refused f → CanSetOut m r
+pub none_set : (m : memory.Sheet) (r : Ready) (f : Refusal) → r.admission ≡ Err f → CanSetOut m r
 none_set m r f u v = absurd (let z : ◌≡◌ {A = ℕ} 0 1 = cc in omega arith)
 
 module _ (m : memory.Sheet) (a : Admitted (sheet_of m)) (departure : List ℕ) (rows : List Row) (minute : ℕ) (given : Given)
@@ -67,10 +67,10 @@ module _ (m : memory.Sheet) (a : Admitted (sheet_of m)) (departure : List ℕ) (
   abbrev g : Gone
   g = gone_part departure rows minute
 
-  pub set_wrong : (r : Ready) → false ≡ went_well s g → r.admission ≡ Refused GoneWrong → SetOut m g r
+  pub set_wrong : (r : Ready) → false ≡ went_well s g → r.admission ≡ Err GoneWrong → SetOut m g r
   set_wrong r e u =
       record {
-        is = u ∙ ap (λ (b : Bool). cond b (cond (outnumbered s g) (Refused NoSchedule) Granted) (Refused GoneWrong)) e;
+        is = u ∙ ap (λ (b : Bool). cond b (cond (outnumbered s g) (Err NoSchedule) (Ok tt)) (Err GoneWrong)) e;
         columns = λ v. absurd (let z : ◌≡◌ {A = ℕ} 0 1 = cc in omega arith);
         sets = λ v. absurd (let z : ◌≡◌ {A = ℕ} 0 1 = cc in omega arith);
       }
@@ -105,7 +105,7 @@ module _ (m : memory.Sheet) (a : Admitted (sheet_of m)) (departure : List ℕ) (
     decides_room : Decides (m.order_count ≤ places (nth c.capacity) m.train_count) all_fit
     decides_room = decides_le m.order_count (places (nth c.capacity) m.train_count)
 
-    pub set_few : (r : Ready) → all_fit ≡ false → r.admission ≡ Refused NoSchedule → SetOut m g r
+    pub set_few : (r : Ready) → all_fit ≡ false → r.admission ≡ Err NoSchedule → SetOut m g r
     set_few r few u =
         let none : outnumbered s g ≡ true = test_true decides_few (outnumber (decided decides_few)) in
         record {
@@ -118,7 +118,7 @@ module _ (m : memory.Sheet) (a : Admitted (sheet_of m)) (departure : List ℕ) (
         outnumber (inl h) = h
         outnumber (inr h) = absurd (test_fails decides_room few (omega (arith, K, enough s g well h)))
 
-    pub set_granted : (r : Ready) → all_fit ≡ true → r.admission ≡ Granted → r.outset ≡ c
+    pub set_granted : (r : Ready) → all_fit ≡ true → r.admission ≡ Ok tt → r.outset ≡ c
         → SetOut m g r
     set_granted r many u v =
         let room : m.order_count ≤ places (behind s g).capacity m.train_count = omega (arith, K, test_means decides_room many) in

@@ -18,7 +18,7 @@ use crate::behind::behind;
 use crate::well::went_well;
 use foreign::Given;
 use foreign::fit::column_of;
-use model::{Admission, Refusal, Sheet};
+use model::{Refusal, Sheet};
 use places::are_enough;
 use search::Outset;
 use search::start::ordinary;
@@ -26,7 +26,7 @@ use search::start::ordinary;
 // Whether a search can be made behind the gone trains, and if so from where.
 #[derive(Clone, Copy)]
 pub struct Ready {
-    pub admission: Admission,
+    pub admission: Result<(), Refusal>,
     pub outset: Outset,
 }
 
@@ -47,7 +47,7 @@ pub fn set_out(sheet: Sheet, departures: &[u32], given: Given, minute: u32) -> R
 {
     if !went_well(sheet, departures, given, minute) {
         return Ready {
-            admission: Admission::Refused(Refusal::GoneWrong),
+            admission: Err(Refusal::GoneWrong),
             outset: ordinary(sheet),
         };
     }
@@ -56,12 +56,12 @@ pub fn set_out(sheet: Sheet, departures: &[u32], given: Given, minute: u32) -> R
     let outset = behind(sheet, departures.len(), train, departure, minute);
     if !has_places(outset, sheet.train_count, sheet.order_count) {
         return Ready {
-            admission: Admission::Refused(Refusal::NoSchedule),
+            admission: Err(Refusal::NoSchedule),
             outset,
         };
     }
     Ready {
-        admission: Admission::Granted,
+        admission: Ok(()),
         outset,
     }
 }

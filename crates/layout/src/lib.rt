@@ -122,9 +122,9 @@ pub fn refusal_line(out: &mut [u8], place: Place, writing: bool, refusal: Refusa
     ensures { state result out.new ≡ pass writing (refusal_line refusal) (state place out.old) }
 {
     let kind = put(out, place, writing, 69);
-    let number = model::refusal_number(refusal);
+    let number = refusal.number();
     let first = number_field(out, kind, writing, number as u64);
-    let returned = model::refusal_returned(refusal);
+    let returned = refusal.returned();
     let second = number_field(out, first, writing, returned as u64);
     put(out, second, writing, 10)
 }

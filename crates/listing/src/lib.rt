@@ -12,25 +12,25 @@ ghost use Rattle.search.specs.Setting.{outset_of};
 ghost use Rattle.planner.specs.Outcome.{listed_so};
 ghost use Rattle.planner.specs.Listing.{ListingCall};
 
-use model::{Admission, ListReply, Refusal, Sheet, TimetableSheet, WindowSheet};
+use model::{Listed, Refusal, Sheet, TimetableSheet, WindowSheet};
 use recording::list_pair;
 use search::Outset;
 use search::round::round_from;
 use search::start::{ordinary, start_from};
 
 // Lists the pairs of a sheet of either form, two numbers a pair: last arrival, worst weighted lateness.
-pub fn list(sheet: Sheet, pairs: &mut [i64]) -> ListReply
+pub fn list(sheet: Sheet, pairs: &mut [i64]) -> Result<Listed, Refusal>
     ensures { ListingCall (sheet_of sheet) result pairs.new pairs.old }
 {
     let tested = room::for_listing(sheet, pairs.len());
-    if let Admission::Refused(refusal) = tested {
-        return ListReply::Refused(refusal);
+    if let Err(refusal) = tested {
+        return Err(refusal);
     }
     list_from(sheet, ordinary(sheet), pairs)
 }
 
 // Lists the pairs of an admitted sheet from an outset, in an area that has room. The rounds end by themselves.
-pub fn list_from(sheet: Sheet, outset: Outset, pairs: &mut [i64]) -> ListReply
+pub fn list_from(sheet: Sheet, outset: Outset, pairs: &mut [i64]) -> Result<Listed, Refusal>
     requires admitted { Admitted (sheet_of sheet) × ListRoom (sheet_of sheet) pairs.old }
     requires sets { Sets (sheet_of sheet) (outset_of sheet.order_count outset) }
     ensures { ListTold (listed_from (sheet_of sheet) (outset_of sheet.order_count outset)) result pairs.new pairs.old }
@@ -48,24 +48,24 @@ pub fn list_from(sheet: Sheet, outset: Outset, pairs: &mut [i64]) -> ListReply
 }
 
 // What is told of this many pairs and rounds: where nothing is listed there is no schedule.
-fn listed(pairs: usize, rounds: usize) -> ListReply
+fn listed(pairs: usize, rounds: usize) -> Result<Listed, Refusal>
     ensures { result ≡ listed_so pairs rounds }
 {
     if pairs == 0 {
-        return ListReply::Refused(Refusal::NoSchedule);
+        return Err(Refusal::NoSchedule);
     }
     ListReply::Listed { pairs, rounds }
 }
 
 // Lists the pairs of a sheet of the window form.
-pub fn list_windows(sheet: WindowSheet, pairs: &mut [i64]) -> ListReply
+pub fn list_windows(sheet: WindowSheet, pairs: &mut [i64]) -> Result<Listed, Refusal>
     ensures { ListingCall (window_sheet sheet) result pairs.new pairs.old }
 {
     list(borders::from_windows(sheet), pairs)
 }
 
 // Lists the pairs of a sheet of the timetable form.
-pub fn list_timetable(sheet: TimetableSheet, pairs: &mut [i64]) -> ListReply
+pub fn list_timetable(sheet: TimetableSheet, pairs: &mut [i64]) -> Result<Listed, Refusal>
     ensures { ListingCall (timetable_sheet sheet) result pairs.new pairs.old }
 {
     list(borders::from_timetable(sheet), pairs)

@@ -8,11 +8,9 @@ use Rattle.numbers.specs.Over.{over}
 use Rattle.model.specs.Sheet.{Sheet}
 use Rattle.model.specs.Schedule.{Schedules}
 use Rattle.model.specs.Lateness.{Pair}
-use Rattle.model.specs.Refusal.{of_listing, of_choice, number_of}
+use Rattle.model.specs.Refusal.{of_reply, number_of}
 use Rattle.model.specs.Admission.{Admitted}
-use Rattle.model.specs.declared.ListReply.{ListReply}
-use Rattle.model.specs.declared.ListReply.TheVariants.{Listed}
-use Rattle.model.specs.declared.ChoiceReply.{ChoiceReply}
+use Rattle.model.specs.Replies.{ListReply, ChoiceReply, listed_as}
 use Rattle.rounds.specs.Recording.{Plan, Entry}
 use Rattle.rounds.specs.EntryPlan.{EntryPlanAmong, EntryPlan, EntryBooked}
 use Rattle.rounds.specs.Answers.{Answer, refused, given, Listing}
@@ -45,7 +43,7 @@ module _ (s : Sheet) (x : Answer Listing) (found : List ℤ) where
   list_past_tests a room = answer_granted s (list_room s (length found)) x (passes s _ a (test_true (decides_list_room s found) room))
 
   module _ (r : ListReply) (left : List ℤ) (told : ListTold ListedTo r left found) where
-    pub lists_so : (pairs rounds : ℕ) → r ≡ Listed pairs rounds → Lists s x left pairs rounds
+    pub lists_so : (pairs rounds : ℕ) → r ≡ listed_as pairs rounds → Lists s x left pairs rounds
     unfolding list_reply list_left
     lists_so pairs rounds e = go ListedTo refl told.replied
       where
@@ -65,8 +63,8 @@ module _ (s : Sheet) (x : Answer Listing) (found : List ℤ) where
               read = ap (pairs_in pairs) here ∙ ap (λ (k : ℕ). pairs_in k written) many ∙ pairs_read l.pairs found;
             }
 
-    pub list_left_as_found : 1 ≤ number_of (of_listing r) → left ≡ found
-    list_left_as_found l = told.areas_left ∙ list_as_found ListedTo found (subst (λ (y : ListReply). 1 ≤ number_of (of_listing y)) told.replied l)
+    pub list_left_as_found : 1 ≤ number_of (of_reply r) → left ≡ found
+    list_left_as_found l = told.areas_left ∙ list_as_found ListedTo found (subst (λ (y : ListReply). 1 ≤ number_of (of_reply y)) told.replied l)
 
 -- ---- choosing, where the plan of the answer is known as a schedule and booked
 
@@ -128,6 +126,6 @@ module _ (s : Sheet) (x : Answer Entry) (found : PlanAreas) where
         subst (λ (y : Plan). EntryPlanAmong s Among (record { pair = p; plan = y })) (sym c.plan)
         (subst (λ (y : Pair). EntryPlanAmong s Among (record { pair = y; plan = c.entry.plan })) c.pair (h c.admitted c.entry c.is))
 
-    pub plan_left_as_found : 1 ≤ number_of (of_choice r) → left ≡ found
+    pub plan_left_as_found : 1 ≤ number_of (of_reply r) → left ≡ found
     plan_left_as_found l =
-        told.areas_left ∙ plan_as_found s ChosenTo found (subst (λ (y : ChoiceReply). 1 ≤ number_of (of_choice y)) told.replied l)
+        told.areas_left ∙ plan_as_found s ChosenTo found (subst (λ (y : ChoiceReply). 1 ≤ number_of (of_reply y)) told.replied l)

@@ -6,8 +6,8 @@ use Rattle.numbers.specs.DecidesLaws.{decides_le, test_means, test_fails, one_ou
 use Rattle.numbers.specs.OneMoreLaws.{All, all_new}
 use Rattle.numbers.specs.Over.{over}
 use Rattle.model.specs.Sheet.{Sheet}
-use Rattle.model.specs.declared.ChoiceReply.{ChoiceReply}
-use Rattle.model.specs.declared.ChoiceReply.TheVariants.{Chosen, Refused}
+use Rattle.std.specs.Prelude.{Err}
+use Rattle.model.specs.Replies.{ChoiceReply, chosen_as}
 use Rattle.model.specs.declared.Refusal.TheVariants.{NoSchedule}
 use Rattle.rounds.specs.Recording.{Entry, record_entry, no_entry, recorded_arrival, last_entry}
 use Rattle.rounds.proofs.RecordingLaws.{record_last}
@@ -63,7 +63,7 @@ module _ (s : Sheet) (a : Aim s) (wish : ℕ) where
 
   -- before the first round
   pub choice_begun : (p : Progress) (found : PlanAreas) → RunningFrom s o p → recorded_now_from s o p ≡ []
-      → Holds s wish (Refused NoSchedule) found found p.last (recorded_now_from s o p)
+      → Holds s wish (Err NoSchedule) found found p.last (recorded_now_from s o p)
   unfolding last_entry
   choice_begun p found running none = held (sym (running.last ∙ ap recorded_arrival none)) (sym none) (nothing_held s wish found)
 
@@ -73,7 +73,7 @@ module _ (s : Sheet) (a : Aim s) (wish : ℕ) where
     pub choice_taken : recorded_now_from s o r ≡ record_entry (recorded_now_from s o p) (shown_entry s r) → r.last ≤ wish → (trains times : List ℕ)
         → trains ≡ over (shown_entry s r).plan.train left.trains
         → times ≡ over (plan_times s (shown_entry s r).plan) left.times
-        → Holds s wish (Chosen r.last r.limit) (areas trains times) found r.last (recorded_now_from s o r)
+        → Holds s wish (chosen_as r.last r.limit) (areas trains times) found r.last (recorded_now_from s o r)
     choice_taken is timely trains times trains_are times_are =
         rw is
         (takes s wish choice left found p.last (recorded_now_from s o p) h early (shown_entry s r) timely (own_plan p r is) (all_plans p.rounds)

@@ -7,14 +7,12 @@ use Rattle.model.specs.Schedule.{Schedule}
 use Rattle.model.specs.Booking.{Booked}
 use Rattle.model.specs.ShortTrains.{EmptyTrains}
 use Rattle.model.specs.Lateness.{Pair}
-use Rattle.model.specs.Refusal.{of_choice, number_of}
+use Rattle.model.specs.Refusal.{of_reply, number_of}
 use Rattle.model.specs.Admission.{Admitted}
-use Rattle.model.specs.declared.Admission.{Admission}
-use Rattle.model.specs.declared.Admission.TheVariants as outcome
+use Rattle.std.specs.Prelude.{Ok, Err}
+use Rattle.model.specs.Replies.{Admission, ChoiceReply}
 use Rattle.model.specs.declared.Refusal.{Refusal}
 use Rattle.model.specs.declared.Refusal.TheVariants.{NoSchedule, WishTooEarly}
-use Rattle.model.specs.declared.ChoiceReply.{ChoiceReply}
-use Rattle.model.specs.declared.ChoiceReply.TheVariants.{Refused}
 use Rattle.rounds.specs.Recording.{Plan, Entry}
 use Rattle.rounds.specs.EntryPlan.{EntryPlan, EntryBooked}
 use Rattle.rounds.specs.Prompt.{Prompt}
@@ -44,11 +42,11 @@ module _ (s : Sheet) (wish : ℕ) (lent : PlanAreas) (t : Admission) (is : t ≡
   abbrev room : Bool
   room = plan_room s (length lent.trains) (length lent.times)
 
-  pub told_refused : (f : Refusal) → t ≡ outcome.Refused f → ChoiceTold s (choose_to s wish lent) (Refused f) lent lent
+  pub told_refused : (f : Refusal) → t ≡ Err f → ChoiceTold s (choose_to s wish lent) (Err f) lent lent
   unfolding choose_to choice_reply plan_left
   told_refused f e = told_first choice_reply (plan_left s) s room (choose s wish) lent t is f e refl
 
-  pub told_rounds : t ≡ outcome.Granted → (r : ChoiceReply) (left : PlanAreas) → ChoiceTold s (choose s wish) r left lent
+  pub told_rounds : t ≡ Ok tt → (r : ChoiceReply) (left : PlanAreas) → ChoiceTold s (choose s wish) r left lent
       → ChoiceTold s (choose_to s wish lent) r left lent
   unfolding choose_to
   told_rounds e = told_then choice_reply (plan_left s) s room (choose s wish) lent t is e
@@ -58,7 +56,7 @@ module _ (s : Sheet) (wish : ℕ) (lent : PlanAreas) (t : Admission) (is : t ≡
 -- of an admitted sheet the rounds answer with number 8 exactly when there is no schedule, and with 11 exactly when there is one, but none by the wish
 module _ (s : Sheet) (a : Admitted s) (wish : ℕ) where
   abbrev told_number : Answer Entry → ℕ
-  told_number x = number_of (of_choice (choice_reply x))
+  told_number x = number_of (of_reply (choice_reply x))
 
   by_eight : (x : Answer Entry) → Chose s (whole s a) wish x → told_number x ≡ 8 → x ≡ refused NoSchedule
   unfolding choice_reply

@@ -4,13 +4,11 @@ use Rattle.std.proofs.Math.Path.{refl, ap, subst}
 use Rattle.std.proofs.Common.{sym, ◌∙◌, arith}
 use Rattle.model.specs.Sheet.{Sheet}
 use Rattle.model.specs.Schedule.{Schedule}
-use Rattle.model.specs.Refusal.{of_listing, number_of}
+use Rattle.model.specs.Refusal.{of_reply, number_of}
 use Rattle.model.specs.Admission.{Admitted}
-use Rattle.model.specs.declared.Admission.{Admission}
-use Rattle.model.specs.declared.Admission.TheVariants as outcome
+use Rattle.std.specs.Prelude.{Ok, Err}
+use Rattle.model.specs.Replies.{Admission, ListReply, listed_as}
 use Rattle.model.specs.declared.Refusal.{Refusal}
-use Rattle.model.specs.declared.ListReply.{ListReply}
-use Rattle.model.specs.declared.ListReply.TheVariants.{Listed, Refused}
 use Rattle.rounds.specs.Answers.{Answer, Listing, list}
 use Rattle.rounds.specs.Areas.{ListRoom, list_room, tested, list_to, list_reply, list_left}
 use Rattle.rounds.proofs.AreaLaws.{list_refuses}
@@ -31,34 +29,34 @@ list_of_rounds s lent a room = list_past_tests s (list s) lent a room
 -- ---- what is told before the rounds, and after them
 
 module _ (s : Sheet) (lent : List ℤ) (t : Admission) (is : t ≡ tested s (list_room s (length lent))) where
-  pub told_refused : (f : Refusal) → t ≡ outcome.Refused f → ListTold (list_to s lent) (Refused f) lent lent
+  pub told_refused : (f : Refusal) → t ≡ Err f → ListTold (list_to s lent) (Err f) lent lent
   unfolding list_to list_reply list_left
   told_refused f e = told_first list_reply list_left s (list_room s (length lent)) (list s) lent t is f e refl
 
-  pub told_rounds : t ≡ outcome.Granted → (r : ListReply) (left : List ℤ) → ListTold (list s) r left lent → ListTold (list_to s lent) r left lent
+  pub told_rounds : t ≡ Ok tt → (r : ListReply) (left : List ℤ) → ListTold (list s) r left lent → ListTold (list_to s lent) r left lent
   unfolding list_to
   told_rounds e = told_then list_reply list_left s (list_room s (length lent)) (list s) lent t is e
 
 -- ---- the contract
 
 -- of an admitted sheet the rounds answer with number 8 exactly when there is no schedule
-eight_listed : (s : Sheet) → Admitted s → number_of (of_listing (list_reply (list s))) ≡ 8 ↔ ((train departure : List ℕ) → ¬ Schedule s train departure)
+eight_listed : (s : Sheet) → Admitted s → number_of (of_reply (list_reply (list s))) ≡ 8 ↔ ((train departure : List ℕ) → ¬ Schedule s train departure)
 unfolding list_reply
 eight_listed s a = go (list s) (answered s (whole s a))
   where
     go : (x : Answer Listing) → Answered s (whole s a) x
-        → number_of (of_listing (list_reply x)) ≡ 8 ↔ ((train departure : List ℕ) → ¬ Schedule s train departure)
+        → number_of (of_reply (list_reply x)) ≡ 8 ↔ ((train departure : List ℕ) → ¬ Schedule s train departure)
     go x (no_schedule none) = (λ e. none, λ f. refl)
     go x (listing l) =
         let (train, departure, h, own) = l.belong 0 l.not_empty in (λ e. absurd (omega arith), λ none. absurd (none train departure h))
 
 module _ (s : Sheet) (r : ListReply) (left found : List ℤ) (told : ListTold (list_to s found) r left found) where
-  accepts : (pairs rounds : ℕ) → r ≡ Listed pairs rounds → Lists s (list s) left pairs rounds
+  accepts : (pairs rounds : ℕ) → r ≡ listed_as pairs rounds → Lists s (list s) left pairs rounds
   unfolding list_to
   accepts = lists_so s (list s) found r left told
 
   lists : Admitted s → ListRoom s found → ((train : List ℕ) × (departure : List ℕ) × Schedule s train departure)
-      → (pairs : ℕ) × (rounds : ℕ) × (r ≡ Listed pairs rounds)
+      → (pairs : ℕ) × (rounds : ℕ) × (r ≡ listed_as pairs rounds)
   unfolding list_reply
   lists a room (train, departure, h) =
       let (l, is, front) = front_is_listed s a train departure h in

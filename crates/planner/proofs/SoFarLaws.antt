@@ -9,8 +9,8 @@ use Rattle.numbers.specs.OneMoreLaws.{All, more_length}
 use Rattle.numbers.specs.Over.{over}
 use Rattle.numbers.specs.OverLaws.{over_over}
 use Rattle.model.specs.Sheet.{Sheet}
-use Rattle.model.specs.declared.ChoiceReply.{ChoiceReply}
-use Rattle.model.specs.declared.ChoiceReply.TheVariants.{Chosen, Refused}
+use Rattle.std.specs.Prelude.{Err}
+use Rattle.model.specs.Replies.{ChoiceReply, chosen_as}
 use Rattle.model.specs.declared.Refusal.TheVariants.{NoSchedule}
 use Rattle.rounds.specs.Recording.{Entry, record_entry, no_entry, last_entry}
 use Rattle.rounds.proofs.RecordingLaws.{FromEnd, nothing, behind, from_end, record_all, record_lengthens, last_recorded}
@@ -47,7 +47,7 @@ writes_over s found e own (given e₀) plans before is =
 
 module _ (s : Sheet) (wish : ℕ) where
   -- before the first round nothing is chosen
-  pub nothing_held : (found : PlanAreas) → Holds s wish (Refused NoSchedule) found found 0 []
+  pub nothing_held : (found : PlanAreas) → Holds s wish (Err NoSchedule) found found 0 []
   unfolding chosen choice_reply plan_left
   nothing_held found =
       record {
@@ -71,7 +71,7 @@ module _ (s : Sheet) (wish : ℕ) where
     pub takes : (e : Entry) → e.pair.last ≤ wish → EntryPlan s e → All no_entry (EntryPlan s) entries → (trains times : List ℕ)
         → trains ≡ over e.plan.train left.trains
         → times ≡ over (plan_times s e.plan) left.times
-        → Holds s wish (Chosen e.pair.last e.pair.worst) (areas trains times) found e.pair.last (record_entry entries e)
+        → Holds s wish (chosen_as e.pair.last e.pair.worst) (areas trains times) found e.pair.last (record_entry entries e)
     unfolding choice_reply
     takes e timely own plans trains times trains_are times_are =
         let all : All no_entry (λ x. x.pair.last ≤ wish) (record_entry entries e) =

@@ -5,10 +5,9 @@ use Rattle.model.specs.Schedule.{Schedule}
 use Rattle.model.specs.Booking.{Booked}
 use Rattle.model.specs.ShortTrains.{EmptyTrains}
 use Rattle.model.specs.Lateness.{Pair}
-use Rattle.model.specs.Refusal.{of_choice, number_of, returned_of}
+use Rattle.model.specs.Refusal.{of_reply, number_of, returned_of}
 use Rattle.model.specs.Admission.{Admitted}
-use Rattle.model.specs.declared.ChoiceReply.{ChoiceReply}
-use Rattle.model.specs.declared.ChoiceReply.TheVariants.{Chosen}
+use Rattle.model.specs.Replies.{ChoiceReply, chosen_as}
 use Rattle.rounds.specs.Areas.{PlanAreas, PlanRoom, choose_to}
 use Rattle.rounds.specs.EntryPlan.{EntryPlan}
 use Rattle.rounds.specs.Prompt.{Prompt}
@@ -19,7 +18,7 @@ use Rattle.planner.specs.InAreas.{plan_in}
 
 -- the pair p is given
 abbrev pub Gives : ChoiceReply → Pair → Type 0
-Gives r p = r ≡ Chosen p.last p.worst
+Gives r p = r ≡ chosen_as p.last p.worst
 
 pub record ChoosingCall (s : Sheet) (wish : ℕ) (r : ChoiceReply) (left found : PlanAreas) : Type 0 where
   -- "each planning call is to state this as an equality, refusals too": the reply and both areas, the rest of each as found
@@ -37,11 +36,11 @@ pub record ChoosingCall (s : Sheet) (wish : ℕ) (r : ChoiceReply) (left found :
   -- "and none that arrives in time has a smaller worst lateness"
   pub best : (p : Pair) → Gives r p → Best s wish p
   -- demand 3's "words on 8 hold for both", of a sheet that passes 4, 5, 2, 6, 7 and 10
-  pub eight : Admitted s → PlanRoom s found → number_of (of_choice r) ≡ 8 ↔ ((train departure : List ℕ) → ¬ Schedule s train departure)
+  pub eight : Admitted s → PlanRoom s found → number_of (of_reply r) ≡ 8 ↔ ((train departure : List ℕ) → ¬ Schedule s train departure)
   -- "11, the wished arrival is before the first listed one": there is a schedule, and none arrives by the wish
-  pub eleven : Admitted s → PlanRoom s found → number_of (of_choice r) ≡ 11 ↔ TooEarly s wish
+  pub eleven : Admitted s → PlanRoom s found → number_of (of_reply r) ≡ 11 ↔ TooEarly s wish
   -- document 02, No. 5: "refusal 7 is given only if the capacities add up to less than n"
-  pub seven : number_of (of_choice r) ≡ 7 → places s.capacity s.trains < s.orders
+  pub seven : number_of (of_reply r) ≡ 7 → places s.capacity s.trains < s.orders
   -- "A number added later returns 0 and changes nothing lent", as do the others
-  pub returns_zero : returned_of (of_choice r) ≡ 0
-  pub as_found : 1 ≤ number_of (of_choice r) → left ≡ found
+  pub returns_zero : returned_of (of_reply r) ≡ 0
+  pub as_found : 1 ≤ number_of (of_reply r) → left ≡ found

@@ -2,7 +2,7 @@
 use Rattle.std.specs.Prelude.{ℕ, ◌≤◌, List, leb}
 use Rattle.numbers.specs.OneMoreLaws.{All}
 use Rattle.model.specs.Sheet.{Sheet}
-use Rattle.model.specs.declared.ChoiceReply.{ChoiceReply}
+use Rattle.model.specs.Replies.{ChoiceReply}
 use Rattle.rounds.specs.Recording.{Entry, no_entry}
 use Rattle.rounds.specs.Outset.{Outset, ordinary}
 use Rattle.rounds.specs.Rounds.{start_from, rounds_from, recorded_from}

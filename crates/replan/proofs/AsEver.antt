@@ -4,8 +4,7 @@ use Rattle.std.proofs.Common.{subst}
 use Rattle.std.specs.Prelude.{List, ℕ, ℤ}
 use Rattle.model.specs.Sheet.{Sheet}
 use Rattle.model.specs.Gone.{nothing_gone}
-use Rattle.model.specs.declared.ListReply.{ListReply}
-use Rattle.model.specs.declared.ChoiceReply.{ChoiceReply}
+use Rattle.model.specs.Replies.{ListReply, ChoiceReply}
 use Rattle.rounds.specs.Recording.{Entry}
 use Rattle.rounds.specs.Answers.{Answer, Listing}
 use Rattle.rounds.specs.Areas.{PlanAreas}

@@ -6,13 +6,11 @@ use Rattle.numbers.specs.DecidesLaws.{decided}
 use Rattle.model.specs.Sheet.{Sheet}
 use Rattle.model.specs.Booking.{Booked}
 use Rattle.model.specs.Lateness.{Pair}
-use Rattle.model.specs.Refusal.{of_listing, of_choice, number_of}
+use Rattle.model.specs.Refusal.{of_reply, number_of}
 use Rattle.model.specs.Admission.{Admitted}
 use Rattle.model.specs.Gone.{Gone, Begins, EmptyTrainsBehind, WentWell}
 use Rattle.model.proofs.GoneTestLaws.{decides_went_well}
-use Rattle.model.specs.declared.ListReply.{ListReply}
-use Rattle.model.specs.declared.ListReply.TheVariants.{Listed}
-use Rattle.model.specs.declared.ChoiceReply.{ChoiceReply}
+use Rattle.model.specs.Replies.{ListReply, ChoiceReply, listed_as}
 use Rattle.rounds.specs.Recording.{Plan, Entry}
 use Rattle.rounds.specs.EntryPlan.{EntryPlanAmong, EntryPlan, EntryBooked}
 use Rattle.rounds.specs.Prompt.{Prompt}
@@ -57,7 +55,7 @@ module _ (s : Sheet) (g : Gone) where
 -- ---- listing
 
 module _ (s : Sheet) (g : Gone) (r : ListReply) (left found : List ℤ) (told : ListTold (relist_to s g found) r left found) where
-  accepts : (pairs rounds : ℕ) → r ≡ Listed pairs rounds → Lists s (relist s g) left pairs rounds
+  accepts : (pairs rounds : ℕ) → r ≡ listed_as pairs rounds → Lists s (relist s g) left pairs rounds
   unfolding relist_to
   accepts = lists_so s (relist s g) found r left told
 
@@ -67,14 +65,14 @@ module _ (s : Sheet) (g : Gone) (r : ListReply) (left found : List ℤ) (told : 
   replies a room = told.replied ∙ ap list_reply (list_past_tests s (relist s g) found a room)
 
   lists : Admitted s → ListRoom s found → WentWell s g → ((train : List ℕ) × (departure : List ℕ) × Begins s g train departure)
-      → (pairs : ℕ) × (rounds : ℕ) × (r ≡ Listed pairs rounds)
+      → (pairs : ℕ) × (rounds : ℕ) × (r ≡ listed_as pairs rounds)
   unfolding list_reply
   lists a room w (train, departure, h) =
       let (l, is, front) = front_is_replanned s a g w train departure h in (length l.pairs, l.rounds, replies a room ∙ ap list_reply is)
 
   -- it tells the number of the answer
-  told_number : Admitted s → ListRoom s found → number_of (of_listing r) ≡ its_number (relist s g)
-  told_number a room = ap (λ (x : ListReply). number_of (of_listing x)) (replies a room) ∙ ap number_of (listing_told (relist s g))
+  told_number : Admitted s → ListRoom s found → number_of (of_reply r) ≡ its_number (relist s g)
+  told_number a room = ap (λ (x : ListReply). number_of (of_reply x)) (replies a room) ∙ ap number_of (listing_told (relist s g))
 
   pub listing_call : RelistingCall s g r left found
   unfolding relist_to
@@ -117,10 +115,10 @@ module _ (s : Sheet) (g : Gone) (wish : ℕ) (r : ChoiceReply) (left found : Pla
   of_pair P h = pair_so s (rechoose s g wish) found plan booked r left told P (λ a e u. h a (choice_well s g wish u) e u)
 
   -- past the tests of choosing it tells the number of the answer
-  chosen_number : Admitted s → PlanRoom s found → number_of (of_choice r) ≡ its_number (rechoose s g wish)
+  chosen_number : Admitted s → PlanRoom s found → number_of (of_reply r) ≡ its_number (rechoose s g wish)
   unfolding rechoose_to
   chosen_number a room =
-      ap (λ (x : ChoiceReply). number_of (of_choice x)) (told.replied ∙ ap choice_reply (choice_past_tests s (rechoose s g wish) found a room))
+      ap (λ (x : ChoiceReply). number_of (of_reply x)) (told.replied ∙ ap choice_reply (choice_past_tests s (rechoose s g wish) found a room))
       ∙ ap number_of (choice_told (rechoose s g wish))
 
   pub choosing_call : RechoosingCall s g wish r left found

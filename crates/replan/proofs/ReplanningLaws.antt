@@ -5,13 +5,9 @@ use Rattle.std.proofs.Common.{◌∙◌}
 use Rattle.model.specs.Sheet.{Sheet}
 use Rattle.model.specs.Memory.{sheet_of}
 use Rattle.model.specs.Gone.{Gone}
-use Rattle.model.specs.declared.Admission.{Admission}
-use Rattle.model.specs.declared.Admission.TheVariants as outcome
+use Rattle.std.specs.Prelude.{Ok, Err}
+use Rattle.model.specs.Replies.{Admission, ListReply, ChoiceReply}
 use Rattle.model.specs.declared.Refusal.{Refusal}
-use Rattle.model.specs.declared.ListReply.{ListReply}
-use Rattle.model.specs.declared.ListReply.TheVariants as listing
-use Rattle.model.specs.declared.ChoiceReply.{ChoiceReply}
-use Rattle.model.specs.declared.ChoiceReply.TheVariants as choosing
 use Rattle.model.specs.declared.Sheet as memory
 use Rattle.rounds.specs.Answers.{refused, list_from, choose_from}
 use Rattle.rounds.specs.Areas.{PlanAreas, list_room, plan_room, tested, list_reply, list_left, choice_reply, plan_left}
@@ -35,24 +31,24 @@ module _ (m : memory.Sheet) (g : Gone) where
   -- ---- listing
 
   module _ (lent : List ℤ) (t : Admission) (is : t ≡ tested s (list_room s (length lent))) where
-    pub list_refused : (f : Refusal) → t ≡ outcome.Refused f → RelistingCall s g (listing.Refused f) lent lent
+    pub list_refused : (f : Refusal) → t ≡ Err f → RelistingCall s g (Err f) lent lent
     unfolding relist_to list_reply list_left
     list_refused f e =
-        listing_call s g (listing.Refused f) lent lent (told_first list_reply list_left s (list_room s (length lent)) (relist s g) lent t is f e refl)
+        listing_call s g (Err f) lent lent (told_first list_reply list_left s (list_room s (length lent)) (relist s g) lent t is f e refl)
 
-    module _ (e : t ≡ outcome.Granted) (ready : Ready) (out : SetOut m g ready) where
+    module _ (e : t ≡ Ok tt) (ready : Ready) (out : SetOut m g ready) where
       then : (r : ListReply) (left : List ℤ) → ListTold (relist s g) r left lent → RelistingCall s g r left lent
       unfolding relist_to
       then r left h =
           listing_call s g r left lent (told_then list_reply list_left s (list_room s (length lent)) (relist s g) lent t is e r left h)
 
-      pub list_gone : (f : Refusal) → ready.admission ≡ outcome.Refused f → RelistingCall s g (listing.Refused f) lent lent
+      pub list_gone : (f : Refusal) → ready.admission ≡ Err f → RelistingCall s g (Err f) lent lent
       unfolding relist list_reply list_left
       list_gone f u =
-          then (listing.Refused f) lent
+          then (Err f) lent
           (told_as {x = refused f} (sym (gone_refused s g (list_from s (behind s g)) f (sym out.is ∙ u))) (record { replied = refl; areas_left = refl }))
 
-      pub list_rounds : ready.admission ≡ outcome.Granted → (r : ListReply) (left : List ℤ)
+      pub list_rounds : ready.admission ≡ Ok tt → (r : ListReply) (left : List ℤ)
           → ListTold (list_from s (outset_of m.order_count ready.outset)) r left lent → RelistingCall s g r left lent
       unfolding relist
       list_rounds u r left h =
@@ -63,27 +59,27 @@ module _ (m : memory.Sheet) (g : Gone) where
   -- ---- choosing
 
   module _ (wish : ℕ) (lent : PlanAreas) (t : Admission) (is : t ≡ tested s (plan_room s (length lent.trains) (length lent.times))) where
-    pub choice_refused : (f : Refusal) → t ≡ outcome.Refused f → RechoosingCall s g wish (choosing.Refused f) lent lent
+    pub choice_refused : (f : Refusal) → t ≡ Err f → RechoosingCall s g wish (Err f) lent lent
     unfolding rechoose_to choice_reply plan_left
     choice_refused f e =
-        choosing_call s g wish (choosing.Refused f) lent lent
+        choosing_call s g wish (Err f) lent lent
         (told_first choice_reply (plan_left s) s (plan_room s (length lent.trains) (length lent.times)) (rechoose s g wish) lent t is f e refl)
 
-    module _ (e : t ≡ outcome.Granted) (ready : Ready) (out : SetOut m g ready) where
+    module _ (e : t ≡ Ok tt) (ready : Ready) (out : SetOut m g ready) where
       then_chosen : (r : ChoiceReply) (left : PlanAreas) → ChoiceTold s (rechoose s g wish) r left lent → RechoosingCall s g wish r left lent
       unfolding rechoose_to
       then_chosen r left h =
           choosing_call s g wish r left lent
           (told_then choice_reply (plan_left s) s (plan_room s (length lent.trains) (length lent.times)) (rechoose s g wish) lent t is e r left h)
 
-      pub choice_gone : (f : Refusal) → ready.admission ≡ outcome.Refused f → RechoosingCall s g wish (choosing.Refused f) lent lent
+      pub choice_gone : (f : Refusal) → ready.admission ≡ Err f → RechoosingCall s g wish (Err f) lent lent
       unfolding rechoose choice_reply plan_left
       choice_gone f u =
-          then_chosen (choosing.Refused f) lent
+          then_chosen (Err f) lent
           (told_as {x = refused f} (sym (gone_refused s g (choose_from s (behind s g) wish) f (sym out.is ∙ u)))
           (record { replied = refl; areas_left = refl }))
 
-      pub choice_rounds : ready.admission ≡ outcome.Granted → (r : ChoiceReply) (left : PlanAreas)
+      pub choice_rounds : ready.admission ≡ Ok tt → (r : ChoiceReply) (left : PlanAreas)
           → ChoiceTold s (choose_from s (outset_of m.order_count ready.outset) wish) r left lent → RechoosingCall s g wish r left lent
       unfolding rechoose
       choice_rounds u r left h =

@@ -5,10 +5,10 @@ use Rattle.model.specs.Sheet.{Sheet, places}
 use Rattle.model.specs.Memory.{window_sheet}
 use Rattle.model.specs.Booking.{Booked}
 use Rattle.model.specs.Lateness.{Pair}
-use Rattle.model.specs.Refusal.{of_choice, number_of, returned_of}
+use Rattle.model.specs.Refusal.{of_reply, number_of, returned_of}
 use Rattle.model.specs.Admission.{Admitted}
 use Rattle.model.specs.Gone.{Gone, Begins, EmptyTrainsBehind, WentWell}
-use Rattle.model.specs.declared.ChoiceReply.{ChoiceReply}
+use Rattle.model.specs.Replies.{ChoiceReply}
 use Rattle.model.specs.declared.Row.{Row}
 use Rattle.rounds.specs.Areas.{PlanAreas, PlanRoom}
 use Rattle.rounds.specs.EntryPlan.{EntryPlanAmong}
@@ -38,16 +38,16 @@ pub record RechoosingCall (s : Sheet) (g : Gone) (wish : ℕ) (r : ChoiceReply) 
   -- "and none that arrives in time has a smaller worst lateness"
   pub best : (p : Pair) → Gives r p → BestAmong s (Begins s g) wish p
   -- "21 .. tested after 10": exactly when the gone part is not well, of a sheet that passes 4, 5, 2, 6, 7 and 10
-  pub twenty_one : Admitted s → PlanRoom s found → number_of (of_choice r) ≡ 21 ↔ (¬ WentWell s g)
+  pub twenty_one : Admitted s → PlanRoom s found → number_of (of_reply r) ≡ 21 ↔ (¬ WentWell s g)
   -- "with demand 3's words on 8": exactly when no schedule begins so, also where "the orders left outnumber the other trains' places"
-  pub eight : Admitted s → PlanRoom s found → WentWell s g → number_of (of_choice r) ≡ 8 ↔ ((train departure : List ℕ) → ¬ Begins s g train departure)
+  pub eight : Admitted s → PlanRoom s found → WentWell s g → number_of (of_reply r) ≡ 8 ↔ ((train departure : List ℕ) → ¬ Begins s g train departure)
   -- "11 included": exactly when there is one, and none of them arrives by the wish
-  pub eleven : Admitted s → PlanRoom s found → WentWell s g → number_of (of_choice r) ≡ 11 ↔ TooEarlyAmong s (Begins s g) wish
+  pub eleven : Admitted s → PlanRoom s found → WentWell s g → number_of (of_reply r) ≡ 11 ↔ TooEarlyAmong s (Begins s g) wish
   -- document 02, No. 5: "refusal 7 is given only if the capacities add up to less than n"
-  pub seven : number_of (of_choice r) ≡ 7 → places s.capacity s.trains < s.orders
+  pub seven : number_of (of_reply r) ≡ 7 → places s.capacity s.trains < s.orders
   -- "A number added later returns 0 and changes nothing lent", as do the others
-  pub returns_zero : returned_of (of_choice r) ≡ 0
-  pub as_found : 1 ≤ number_of (of_choice r) → left ≡ found
+  pub returns_zero : returned_of (of_reply r) ≡ 0
+  pub as_found : 1 ≤ number_of (of_reply r) → left ≡ found
 
 -- of a sheet of the window form at a minute
 abbrev pub RechosenAt : WindowsAt → (wish : ℕ) → (departure : List ℕ) → List Row → ChoiceReply → (left found : PlanAreas) → Type 0

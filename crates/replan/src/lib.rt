@@ -13,7 +13,7 @@ use choosing::choose_from;
 use foreign::{Given, gather};
 use gone::set_out;
 use listing::list_from;
-use model::{Admission, ChoiceReply, ListReply, Row, Sheet, WindowSheet};
+use model::{Listed, PlanPair, Refusal, Row, Sheet, WindowSheet};
 
 // A sheet of the window form that is planned anew at a minute, when some of its first trains have left.
 #[repr(C)]
@@ -30,18 +30,18 @@ fn relist(
     departures: &[u32],
     given: Given,
     pairs: &mut [i64],
-) -> ListReply
+) -> Result<Listed, Refusal>
     ensures { OfRows given (λ rows. RelistingCall (sheet_of sheet) (gone_part departures.now rows minute) result
         pairs.new pairs.old) }
 {
     let tested = room::for_listing(sheet, pairs.len());
-    if let Admission::Refused(refusal) = tested {
-        return ListReply::Refused(refusal);
+    if let Err(refusal) = tested {
+        return Err(refusal);
     }
     let ready = set_out(sheet, departures, given, minute);
     let admission = ready.admission;
-    if let Admission::Refused(refusal) = admission {
-        return ListReply::Refused(refusal);
+    if let Err(refusal) = admission {
+        return Err(refusal);
     }
     let outset = ready.outset;
     list_from(sheet, outset, pairs)
@@ -56,18 +56,18 @@ fn rechoose(
     given: Given,
     train_of_order: &mut [u8],
     times: &mut [u32],
-) -> ChoiceReply
+) -> Result<PlanPair, Refusal>
     ensures { OfRows given (λ rows. RechoosingCall (sheet_of sheet) (gone_part departures.now rows minute) wish result
         (areas train_of_order.new times.new) (areas train_of_order.old times.old)) }
 {
     let tested = room::for_choosing(sheet, train_of_order.len(), times.len());
-    if let Admission::Refused(refusal) = tested {
-        return ChoiceReply::Refused(refusal);
+    if let Err(refusal) = tested {
+        return Err(refusal);
     }
     let ready = set_out(sheet, departures, given, minute);
     let admission = ready.admission;
-    if let Admission::Refused(refusal) = admission {
-        return ChoiceReply::Refused(refusal);
+    if let Err(refusal) = admission {
+        return Err(refusal);
     }
     let outset = ready.outset;
     choose_from(sheet, outset, wish, train_of_order, times)
@@ -79,7 +79,7 @@ pub fn relist_gathered(
     departures: &[u32],
     given: Given,
     pairs: &mut [i64],
-) -> ListReply
+) -> Result<Listed, Refusal>
     ensures { OfRows given (λ rows. RelistedAt at departures.now rows result pairs.new pairs.old) }
 {
     let sheet = at.sheet;
@@ -100,7 +100,7 @@ pub fn rechoose_gathered(
     given: Given,
     train_of_order: &mut [u8],
     times: &mut [u32],
-) -> ChoiceReply
+) -> Result<PlanPair, Refusal>
     ensures { OfRows given (λ rows. RechosenAt at wish departures.now rows result
         (areas train_of_order.new times.new) (areas train_of_order.old times.old)) }
 {
@@ -122,7 +122,7 @@ pub fn relist_windows(
     departures: &[u32],
     rows: &[Row],
     pairs: &mut [i64],
-) -> ListReply
+) -> Result<Listed, Refusal>
     ensures { RelistedAt at departures.now rows.now result pairs.new pairs.old }
 {
     let given = gather(rows);
@@ -137,7 +137,7 @@ pub fn rechoose_windows(
     rows: &[Row],
     train_of_order: &mut [u8],
     times: &mut [u32],
-) -> ChoiceReply
+) -> Result<PlanPair, Refusal>
     ensures { RechosenAt at wish departures.now rows.now result
         (areas train_of_order.new times.new) (areas train_of_order.old times.old) }
 {

@@ -12,7 +12,7 @@ ghost use Rattle.rounds.specs.Areas.{list_room, plan_room, tested};
 ghost use Rattle.rounds.specs.ByRound.{search_room};
 
 use model::limits::{NUMBERS_A_PAIR, NUMBERS_A_TRAIN};
-use model::{Admission, Refusal, Sheet};
+use model::{Refusal, Sheet};
 
 // Whether the pairs area has room for as many pairs as the sheet's figure.
 fn holds_pairs(sheet: Sheet, pairs: usize) -> bool
@@ -31,43 +31,43 @@ fn holds_plan(n: usize, q: usize, trains: usize, times: usize) -> bool
 }
 
 // Test 10, where the areas have room or not.
-fn with_room(room: bool) -> Admission
+fn with_room(room: bool) -> Result<(), Refusal>
     ensures { result ≡ cond room outcome.Granted (outcome.Refused cause.AreaTooShort) }
 {
     if room {
-        return Admission::Granted;
+        return Ok(());
     }
-    Admission::Refused(Refusal::AreaTooShort)
+    Err(Refusal::AreaTooShort)
 }
 
 // For listing and checking, which fill the pairs area.
-pub fn for_listing(sheet: Sheet, pairs: usize) -> Admission
+pub fn for_listing(sheet: Sheet, pairs: usize) -> Result<(), Refusal>
     ensures { result ≡ tested (sheet_of sheet) (list_room (sheet_of sheet) pairs) }
 {
     let admission = admission::admit(sheet);
-    let Admission::Granted = admission else {
+    let Ok(()) = admission else {
         return admission;
     };
     with_room(holds_pairs(sheet, pairs))
 }
 
 // For choosing, which fills the areas for trains and times.
-pub fn for_choosing(sheet: Sheet, trains: usize, times: usize) -> Admission
+pub fn for_choosing(sheet: Sheet, trains: usize, times: usize) -> Result<(), Refusal>
     ensures { result ≡ tested (sheet_of sheet) (plan_room (sheet_of sheet) trains times) }
 {
     let admission = admission::admit(sheet);
-    let Admission::Granted = admission else {
+    let Ok(()) = admission else {
         return admission;
     };
     with_room(holds_plan(sheet.order_count, sheet.train_count, trains, times))
 }
 
 // For a search by rounds, which fills all three.
-pub fn for_search(sheet: Sheet, pairs: usize, trains: usize, times: usize) -> Admission
+pub fn for_search(sheet: Sheet, pairs: usize, trains: usize, times: usize) -> Result<(), Refusal>
     ensures { result ≡ tested (sheet_of sheet) (search_room (sheet_of sheet) pairs trains times) }
 {
     let admission = admission::admit(sheet);
-    let Admission::Granted = admission else {
+    let Ok(()) = admission else {
         return admission;
     };
     with_room(

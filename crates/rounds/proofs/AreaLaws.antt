@@ -5,11 +5,11 @@ use Rattle.numbers.specs.DecidesLaws.{Decides, decides_le, decides_and, decides_
 use Rattle.model.specs.Sheet.{Sheet, places}
 use Rattle.model.specs.Limits.{numbers_a_pair, numbers_a_train}
 use Rattle.model.specs.Lateness.{Pair}
-use Rattle.model.specs.Refusal.{number, returned, number_of, returned_of, of_listing, of_choice}
+use Rattle.model.specs.Refusal.{number, returned, number_of, returned_of, of_reply}
 use Rattle.model.specs.Admission.{admission}
 use Rattle.model.proofs.AdmissionLaws.{admission_returns, seven_means}
-use Rattle.model.specs.declared.Admission.{Admission}
-use Rattle.model.specs.declared.Admission.TheVariants as tests
+use Rattle.std.specs.Prelude.{Ok, Err}
+use Rattle.model.specs.Replies.{Admission}
 use Rattle.model.specs.declared.Refusal.{Refusal}
 use Rattle.model.specs.declared.Refusal.TheVariants.{NoSchedule, AreaTooShort, WishTooEarly}
 use Rattle.rounds.specs.Recording.{Plan, Entry}
@@ -54,22 +54,22 @@ plan_times_length s x = time_numbers_length x.departure x.arrival x.window s.tra
 
 -- whether a call's answer refuses, and why
 abbrev pub of_answer : {A : Type 0} → Answer A → Admission
-of_answer (refused r) = tests.Refused r
-of_answer (given x) = tests.Granted
+of_answer (refused r) = Err r
+of_answer (given x) = Ok tt
 
 -- what holds of no refusal, of 10 and of each refusal of the sheet holds of the tests
-pub tested_so : (P : Admission → Type 0) (s : Sheet) (room : Bool) → P tests.Granted → P (tests.Refused AreaTooShort)
-    → ((r : Refusal) → admission s ≡ tests.Refused r → P (tests.Refused r)) → P (tested s room)
+pub tested_so : (P : Admission → Type 0) (s : Sheet) (room : Bool) → P (Ok tt) → P (Err AreaTooShort)
+    → ((r : Refusal) → admission s ≡ Err r → P (Err r)) → P (tested s room)
 unfolding tested after_admission
 tested_so P s room granted short h = go (admission s) refl
   where
-    long : (b : Bool) → P (cond b tests.Granted (tests.Refused AreaTooShort))
+    long : (b : Bool) → P (cond b (Ok tt) (Err AreaTooShort))
     long true = granted
     long false = short
 
     go : (a : Admission) → admission s ≡ a → P (after_admission room a)
-    go tests.Granted u = long room
-    go (tests.Refused r) u = h r u
+    go (Ok _) u = long room
+    go (Err r) u = h r u
 
 -- of whatever a call on the sheet s refuses: 0 is returned, and 7 is given "only if the capacities add up to less than n"
 pub record Refuses (s : Sheet) (x : Admission) : Type 0 where
@@ -77,10 +77,10 @@ pub record Refuses (s : Sheet) (x : Admission) : Type 0 where
   pub seven : number_of x ≡ 7 → places s.capacity s.trains < s.orders
 
 -- so of no refusal, and of one behind the tests of the sheet
-pub refuses_nothing : (s : Sheet) → Refuses s tests.Granted
+pub refuses_nothing : (s : Sheet) → Refuses s (Ok tt)
 refuses_nothing s = record { returns_zero = refl; seven = λ e. absurd (omega arith) }
 
-pub refuses_later : (s : Sheet) (r : Refusal) → returned r ≡ 0 → 8 ≤ number r → Refuses s (tests.Refused r)
+pub refuses_later : (s : Sheet) (r : Refusal) → returned r ≡ 0 → 8 ≤ number r → Refuses s (Err r)
 refuses_later s r z later = record { returns_zero = z; seven = λ e. absurd (omega arith) }
 
 pub tests_refuse : (s : Sheet) (room : Bool) → Refuses s (tested s room)
@@ -95,16 +95,16 @@ unfolding after_tests
 answer_refuses s room x h = go (tested s room) (tests_refuse s room)
   where
     go : (t : Admission) → Refuses s t → Refuses s (of_answer (after_tests t x))
-    go tests.Granted u = h
-    go (tests.Refused r) u = u
+    go (Ok _) u = h
+    go (Err r) u = u
 
 -- what each call returns is whether its answer refuses
-pub listing_told : (x : Answer Listing) → of_listing (list_reply x) ≡ of_answer x
+pub listing_told : (x : Answer Listing) → of_reply (list_reply x) ≡ of_answer x
 unfolding list_reply
 listing_told (refused r) = refl
 listing_told (given l) = refl
 
-pub choice_told : (x : Answer Entry) → of_choice (choice_reply x) ≡ of_answer x
+pub choice_told : (x : Answer Entry) → of_reply (choice_reply x) ≡ of_answer x
 unfolding choice_reply
 choice_told (refused r) = refl
 choice_told (given e) = refl
@@ -118,7 +118,7 @@ rounds_refuse s o = go (rounds_in (search_from s o)) (recorded_in (search_from s
     go c [] = refuses_later s NoSchedule refl (omega arith)
     go c (e ∷ es) = refuses_nothing s
 
-pub list_refuses : (s : Sheet) (lent : List ℤ) → Refuses s (of_listing (list_reply (list_to s lent)))
+pub list_refuses : (s : Sheet) (lent : List ℤ) → Refuses s (of_reply (list_reply (list_to s lent)))
 unfolding list_to
 list_refuses s lent = rw (listing_told (list_to s lent)) (answer_refuses s (list_room s (length lent)) (list s) (rounds_refuse s (ordinary s)))
 
@@ -135,18 +135,18 @@ choices_refuse s o wish = go (recorded_in (search_from s o))
     go [] = refuses_later s NoSchedule refl (omega arith)
     go (e ∷ es) = timely (in_time wish e) _
 
-pub choice_refuses : (s : Sheet) (wish : ℕ) (lent : PlanAreas) → Refuses s (of_choice (choice_reply (choose_to s wish lent)))
+pub choice_refuses : (s : Sheet) (wish : ℕ) (lent : PlanAreas) → Refuses s (of_reply (choice_reply (choose_to s wish lent)))
 unfolding choose_to
 choice_refuses s wish lent =
     rw (choice_told (choose_to s wish lent))
     (answer_refuses s (plan_room s (length lent.trains) (length lent.times)) (choose s wish) (choices_refuse s (ordinary s) wish))
 
-pub list_as_found : (x : Answer Listing) (found : List ℤ) → 1 ≤ number_of (of_listing (list_reply x)) → list_left x found ≡ found
+pub list_as_found : (x : Answer Listing) (found : List ℤ) → 1 ≤ number_of (of_reply (list_reply x)) → list_left x found ≡ found
 unfolding list_reply list_left
 list_as_found (refused r) found l = refl
 list_as_found (given x) found l = absurd (omega arith)
 
-pub plan_as_found : (s : Sheet) (x : Answer Entry) (found : PlanAreas) → 1 ≤ number_of (of_choice (choice_reply x)) → plan_left s x found ≡ found
+pub plan_as_found : (s : Sheet) (x : Answer Entry) (found : PlanAreas) → 1 ≤ number_of (of_reply (choice_reply x)) → plan_left s x found ≡ found
 unfolding choice_reply plan_left
 plan_as_found s (refused r) found l = refl
 plan_as_found s (given e) found l = absurd (omega arith)

@@ -7,11 +7,11 @@ use native.Mathlib.Omega.{arith}
 use Rattle.numbers.specs.Counting.{sum}
 use Rattle.model.specs.Sheet.{Sheet, places}
 use Rattle.model.specs.Limits.{most_pairs, order_counts, capacity_range}
-use Rattle.model.specs.Refusal.{of_bound, number_of}
+use Rattle.model.specs.Refusal.{of_reply, number_of}
 use Rattle.model.specs.Admission.{Admitted, admission}
 use Rattle.model.proofs.AdmissionLaws.{admitted_means, admission_among, admission_returns, seven_means}
-use Rattle.model.specs.declared.Admission.{Admission}
-use Rattle.model.specs.declared.Admission.TheVariants.{Granted, Refused}
+use Rattle.std.specs.Prelude.{Ok, Err}
+use Rattle.model.specs.Replies.{Admission}
 use Rattle.rounds.specs.Recording.{listed}
 use Rattle.rounds.proofs.RecordingLaws.{listed_length}
 use Rattle.rounds.specs.Rounds.{Search, going, ended, rounds_in, recorded_in}
@@ -90,21 +90,21 @@ module _ (s : Sheet) where
   bound_given most e = go (admission s) refl e
     where
       go : (t : Admission) → admission s ≡ t → after_tests t (given (rounds_bound s)) ≡ given most → Admitted s × (most ≡ rounds_bound s)
-      go Granted u v = ((admitted_means s).0 u, cc)
-      go (Refused r) u v = absurd (let z : ◌≡◌ {A = ℕ} 0 1 = cc in omega arith)
+      go (Ok _) u v = ((admitted_means s).0 u, cc)
+      go (Err r) u v = absurd (let z : ◌≡◌ {A = ℕ} 0 1 = cc in omega arith)
 
   -- else the refusal is one of "4, 5, 2, 6 and 7"
   pub record BoundRefuses (x : Admission) : Type 0 where
     pub among : (number_of x ≡ 0) ⊎ ((number_of x ≡ 2) ⊎ ((4 ≤ number_of x) × (number_of x ≤ 7)))
     pub as_any : Refuses s x
 
-  pub bound_refuses : BoundRefuses (of_bound (bound_reply (bound s)))
+  pub bound_refuses : BoundRefuses (of_reply (bound_reply (bound s)))
   unfolding bound after_tests bound_reply
   bound_refuses = go (admission s) refl
     where
-      go : (t : Admission) → admission s ≡ t → BoundRefuses (of_bound (bound_reply (after_tests t (given (rounds_bound s)))))
-      go Granted u = record { among = inl refl; as_any = refuses_nothing s }
-      go (Refused r) u =
+      go : (t : Admission) → admission s ≡ t → BoundRefuses (of_reply (bound_reply (after_tests t (given (rounds_bound s)))))
+      go (Ok _) u = record { among = inl refl; as_any = refuses_nothing s }
+      go (Err r) u =
           record {
             among = inr (admission_among r s u);
             as_any = record { returns_zero = admission_returns r s u; seven = seven_means r s u };

@@ -11,7 +11,7 @@ use Rattle.model.specs.Sheet.{Sheet}
 use Rattle.model.specs.Refusal.{number_of}
 use Rattle.model.specs.Admission.{Admitted}
 use Rattle.model.proofs.AdmissionLaws.{admission_numbers}
-use Rattle.model.specs.declared.Admission.{Admission}
+use Rattle.model.specs.Replies.{Admission}
 use Rattle.model.specs.declared.RoundReply.TheVariants.{GoesOn}
 use Rattle.rounds.specs.Recording.{Entry, listed, no_entry, last_entry}
 use Rattle.rounds.proofs.RecordingLaws.{FromEnd, nothing, behind, from_end, last_behind}

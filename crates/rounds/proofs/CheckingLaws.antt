@@ -10,10 +10,10 @@ use Rattle.model.proofs.ScheduleTestLaws.{decides_schedule}
 use Rattle.model.specs.Lateness.{Pair, pair_of, pair_at, AtLeastAsGood}
 use Rattle.model.specs.Foreign.{RowsFit, rows_fit, trains_told, RowsTell, rows_of}
 use Rattle.model.proofs.ForeignLaws.{decides_rows_fit, told_by_rows, rows_of_tell}
-use Rattle.model.specs.Refusal.{number_of, of_check}
+use Rattle.model.specs.Refusal.{number_of, of_reply}
 use Rattle.model.specs.Admission.{Admitted}
 use Rattle.model.specs.declared.Row.{Row}
-use Rattle.model.specs.declared.Admission.TheVariants.{Refused}
+use Rattle.std.specs.Prelude.{Err}
 use Rattle.model.specs.declared.Refusal.{Refusal}
 use Rattle.model.specs.declared.Refusal.TheVariants.{WrongRows, RuleBroken}
 use Rattle.rounds.specs.Recording.{Entry}
@@ -220,13 +220,13 @@ own_rows s a wish e u =
 
 -- ---- a refused call
 
-check_told : (x : Answer Verdict) → of_check (check_reply x) ≡ of_answer x
+check_told : (x : Answer Verdict) → of_reply (check_reply x) ≡ of_answer x
 unfolding check_reply
 check_told (refused r) = refl
 check_told (given v) = refl
 
 pub check_refuses : (s : Sheet) (departure : List ℕ) (rows : List Row) (lent : List ℤ)
-    → Refuses s (of_check (check_reply (check_to s departure rows lent)))
+    → Refuses s (of_reply (check_reply (check_to s departure rows lent)))
 unfolding check_to check judge beside
 check_refuses s departure rows lent =
     rw (check_told (check_to s departure rows lent))
@@ -235,7 +235,7 @@ check_refuses s departure rows lent =
     (unless (is_schedule s (told s departure rows) departure) _ RuleBroken (passed_on (list s) (rounds_refuse s (ordinary s)))
     (refuses_later s RuleBroken refl (omega arith))) (refuses_later s WrongRows refl (omega arith))))
   where
-    unless : (b : Bool) (x : Answer Verdict) (r : Refusal) → Refuses s (of_answer x) → Refuses s (Refused r)
+    unless : (b : Bool) (x : Answer Verdict) (r : Refusal) → Refuses s (of_answer x) → Refuses s (Err r)
         → Refuses s (of_answer (cond b x (refused r)))
     unless true x r y z = y
     unless false x r y z = z
@@ -244,7 +244,7 @@ check_refuses s departure rows lent =
     passed_on (refused r) z = z
     passed_on (given l) z = refuses_nothing s
 
-pub check_as_found : (x : Answer Verdict) (found : List ℤ) → 1 ≤ number_of (of_check (check_reply x)) → check_left x found ≡ found
+pub check_as_found : (x : Answer Verdict) (found : List ℤ) → 1 ≤ number_of (of_reply (check_reply x)) → check_left x found ≡ found
 unfolding check_reply check_left
 check_as_found (refused r) found l = refl
 check_as_found (given v) found l = absurd (omega arith)

@@ -10,8 +10,8 @@ use Rattle.model.specs.Sheet.{Paths, windows, timetable, Sheet, places}
 use Rattle.model.specs.Schedule.{Departures}
 use Rattle.model.specs.Admission.{Admitted, admission}
 use Rattle.model.proofs.AdmissionLaws.{admitted_means}
-use Rattle.model.specs.declared.Admission.{Admission}
-use Rattle.model.specs.declared.Admission.TheVariants.{Granted, Refused}
+use Rattle.std.specs.Prelude.{Ok, Err}
+use Rattle.model.specs.Replies.{Admission}
 use Rattle.model.specs.Foreign.{train_in, trains_told}
 use Rattle.model.specs.Gone.{nothing_gone, gone_by, went, WentWell}
 use Rattle.rounds.specs.Outset.{Outset, ordinary}
@@ -84,8 +84,8 @@ module _ (s : Sheet) where
   same_tests room x y same = go (admission s) refl
     where
       go : (t : Admission) → admission s ≡ t → after_tests (after_admission room t) x ≡ after_tests (after_admission room t) y
-      go Granted u = ap (after_tests (after_admission room Granted)) (same ((admitted_means s).0 u))
-      go (Refused r) u = refl
+      go (Ok _) u = ap (after_tests (after_admission room (Ok tt))) (same ((admitted_means s).0 u))
+      go (Err r) u = refl
 
   pub lists_to_as_ever : (lent : List ℤ) → relist_to s nothing_gone lent ≡ list_to s lent
   unfolding relist_to list_to

@@ -7,7 +7,7 @@ use mathlib.Core.List.{List}
 use native.Mathlib.Omega.{arith}
 use Rattle.numbers.specs.DecidesLaws.{Decides, decides_lt, decided, test_means, test_fails, cond_yes, cond_no}
 use Rattle.model.specs.Sheet.{Sheet, places}
-use Rattle.model.specs.Refusal.{of_listing, of_choice}
+use Rattle.model.specs.Refusal.{of_reply}
 use Rattle.model.specs.Admission.{Admitted}
 use Rattle.model.specs.Gone.{Gone, gone_trains, went, WentWell, went_well, Begins}
 use Rattle.model.proofs.GoneTestLaws.{decides_went_well}
@@ -182,13 +182,13 @@ module _ (s : Sheet) (g : Gone) where
       go true false = h
       go false c = refuses_later s GoneWrong refl (omega arith)
 
-  pub relist_refuses : (lent : List ℤ) → Refuses s (of_listing (list_reply (relist_to s g lent)))
+  pub relist_refuses : (lent : List ℤ) → Refuses s (of_reply (list_reply (relist_to s g lent)))
   unfolding relist_to relist
   relist_refuses lent =
       rw (listing_told (relist_to s g lent))
       (answer_refuses s (list_room s (length lent)) (relist s g) (gone_refuses (list_from s (behind s g)) (rounds_refuse s (behind s g))))
 
-  pub rechoice_refuses : (wish : ℕ) (lent : PlanAreas) → Refuses s (of_choice (choice_reply (rechoose_to s g wish lent)))
+  pub rechoice_refuses : (wish : ℕ) (lent : PlanAreas) → Refuses s (of_reply (choice_reply (rechoose_to s g wish lent)))
   unfolding rechoose_to rechoose
   rechoice_refuses wish lent =
       rw (choice_told (rechoose_to s g wish lent))

@@ -2,14 +2,14 @@
 use Rattle.std.specs.Prelude.{◌≡◌, refl, [], ◌∷◌, replicate}
 use Rattle.model.specs.Admission.{admission}
 use Rattle.model.specs.declared.Refusal.TheVariants.{TooFewPlaces}
-use Rattle.model.specs.declared.Admission.TheVariants.{Granted, Refused}
+use Rattle.std.specs.Prelude.{Ok, Err}
 use Rattle.rounds.specs.Loading.{load, take_orders}
 use Rattle.rounds.specs.Timing.{awaited}
 use Rattle.rounds.specs.Answers.{last_arrival_in}
 use Rattle.rounds.specs.ShortCases.{one_too_few, short_admissions, short_lists, stated_short_lists, short_plans, stated_short_plans}
 
 pub record ShortCasesAre : Type 0 where
-  pub admitted : short_admissions ≡ replicate 6 Granted
+  pub admitted : short_admissions ≡ replicate 6 (Ok tt)
   pub lists : short_lists ≡ stated_short_lists
   pub plans : short_plans ≡ stated_short_plans
 
@@ -18,7 +18,7 @@ unfolding short_admissions short_lists stated_short_lists short_plans stated_sho
 short_cases_are = record { admitted = refl; lists = refl; plans = refl }
 
 -- two places for three orders
-pub seven_for_too_few : admission one_too_few ≡ Refused TooFewPlaces
+pub seven_for_too_few : admission one_too_few ≡ Err TooFewPlaces
 unfolding admission
 seven_for_too_few = refl
 

@@ -5,13 +5,13 @@ use Rattle.model.specs.declared.Refusal.{Refusal}
 use Rattle.model.specs.Admission.{passed}
 use Rattle.rows.specs.Faults.{first_fault, last_fault}
 use Rattle.rows.specs.declared.LineTests.{LineTests}
-use Rattle.model.specs.declared.Admission.{Admission}
-use Rattle.model.specs.declared.Admission.TheVariants.{Granted, Refused}
+use Rattle.std.specs.Prelude.{Ok, Err}
+use Rattle.model.specs.Replies.{Admission}
 
-pub refused_not_granted : {A : Type 0} {r : Refusal} → Refused r ≡ Granted → A
+pub refused_not_granted : {A : Type 0} {r : Refusal} → ◌≡◌ {A = Admission} (Err r) (Ok tt) → A
 refused_not_granted e = let z : ◌≡◌ {A = ℕ} 0 1 = cc in absurd (omega arith)
 
-pub passed_granted : (b : Bool) (r : Refusal) (next : Admission) → passed b r next ≡ Granted → (b ≡ true) × (next ≡ Granted)
+pub passed_granted : (b : Bool) (r : Refusal) (next : Admission) → passed b r next ≡ Ok tt → (b ≡ true) × (next ≡ Ok tt)
 passed_granted true r next e = (refl, e)
 passed_granted false r next e = refused_not_granted e
 
@@ -21,7 +21,7 @@ pub record NoFault (t : LineTests) : Type 0 where
   pub ranged : t.in_range ≡ true
   pub ordered : t.in_order ≡ true
 
-pub no_fault : (line : ℕ) (t : LineTests) → first_fault line t ≡ Granted → NoFault t
+pub no_fault : (line : ℕ) (t : LineTests) → first_fault line t ≡ Ok tt → NoFault t
 unfolding first_fault
 no_fault line t e₃ =
     let (p₃, e₄) = passed_granted t.late_enough _ _ e₃ in
@@ -30,7 +30,7 @@ no_fault line t e₃ =
     let (p₆, e) = passed_granted t.in_order _ _ e₆ in
     record { late = p₃; few = p₄; ranged = p₂; ordered = p₆ }
 
-pub no_last_fault : (complete roomy : Bool) → last_fault complete roomy ≡ Granted → (complete ≡ true) × (roomy ≡ true)
+pub no_last_fault : (complete roomy : Bool) → last_fault complete roomy ≡ Ok tt → (complete ≡ true) × (roomy ≡ true)
 unfolding last_fault
 no_last_fault complete roomy e₅ =
     let (p₅, e₇) = passed_granted complete _ _ e₅ in

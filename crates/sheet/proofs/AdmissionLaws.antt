@@ -7,7 +7,7 @@ use Rattle.model.specs.Sheet.{places}
 use Rattle.model.specs.Memory.{paths_by, sheet_of}
 use Rattle.model.specs.Limits.{Inside, capacity_range, running_range}
 use Rattle.model.specs.Admission.{Admitted, FewWindows, SomeWindow, PathsInRange, PathsInOrder}
-use Rattle.model.specs.declared.Admission.TheVariants.{Granted}
+use Rattle.std.specs.Prelude.{Ok}
 use Rattle.model.specs.declared.Form.{Form}
 use Rattle.model.specs.declared.Form.TheVariants.{Windows, Timetable}
 use Rattle.rows.proofs.FaultLaws.{no_last_fault}
@@ -66,7 +66,7 @@ paths_admitted Timetable s h e =
           };
     }
 
-lines_admitted : (form : Form) (s : SheetLines) → Good form s → end_fault form s ≡ Granted → Admitted (sheet_of (sheet_from form s))
+lines_admitted : (form : Form) (s : SheetLines) → Good form s → end_fault form s ≡ Ok tt → Admitted (sheet_of (sheet_from form s))
 unfolding sheet_from end_fault
 lines_admitted form s h e =
     let q = s.trains.count in
@@ -89,6 +89,6 @@ lines_admitted form s h e =
     }
 
 -- WHAT IS READ IS ADMITTED
-pub read_admitted : (form : Form) (text : List ℕ) → (reading form text).admission ≡ Granted → Admitted (sheet_of (reading form text).sheet)
+pub read_admitted : (form : Form) (text : List ℕ) → (reading form text).admission ≡ Ok tt → Admitted (sheet_of (reading form text).sheet)
 unfolding reading
 read_admitted form text e = lines_admitted form (read_from form text 0).lines (text_good form text 0).lines.0 ((text_good form text 0).ended e)

@@ -18,8 +18,8 @@ use Rattle.model.specs.declared.Form.{Form}
 use Rattle.lines.specs.declared.Line.{Line}
 use Rattle.lines.specs.declared.LineAt.{LineAt}
 use Rattle.lines.specs.declared.LineAt.TheVariants as L
-use Rattle.model.specs.declared.Admission.{Admission}
-use Rattle.model.specs.declared.Admission.TheVariants as A
+use Rattle.std.specs.Prelude.{Ok, Err}
+use Rattle.model.specs.Replies.{Admission}
 use Rattle.gather.specs.declared.SheetLines.{SheetLines}
 use Rattle.sheet.specs.declared.SheetText.{SheetText}
 
@@ -65,14 +65,14 @@ module _ (form : Form) where
       rest_malformed f e = rest_next ∙ rw e
 
       module _ (l : Line) (next : ℕ) (e : line_at text p line ≡ L.Read l next) where
-        pub rest_faulty : (f : Refusal) → line_fault form line s l ≡ A.Refused f → whole ≡ refused f
+        pub rest_faulty : (f : Refusal) → line_fault form line s l ≡ Err f → whole ≡ refused f
         rest_faulty f k = rest_next ∙ rw (e, k)
 
         -- a line that is read ends later
         pub next_later : p < next
         next_later = (subst (Sound text p line) e (line_sound text p line)).0
 
-        pub rest_goes_on : line_fault form line s l ≡ A.Granted → Rest whole text next (line + 1) (with_line s l)
+        pub rest_goes_on : line_fault form line s l ≡ Ok tt → Rest whole text next (line + 1) (with_line s l)
         rest_goes_on k =
             let n : length text - (line - 1) - 1 ≡ length text - (line + 1 - 1) = omega (arith, r.first) in
             record {
@@ -102,19 +102,19 @@ module _ (form : Form) where
   -- ---- what a whole reading keeps: a text that is read has no fault at its end, and one that is refused has no lines
   pub record Whole (P : SheetLines → Type 0) (t : SheetText) : Type 0 where
     pub lines : P t.lines
-    pub ended : t.admission ≡ A.Granted → end_fault form t.lines ≡ A.Granted
-    pub empty : (r : Refusal) → t.admission ≡ A.Refused r → t.lines ≡ no_lines
+    pub ended : t.admission ≡ Ok tt → end_fault form t.lines ≡ Ok tt
+    pub empty : (r : Refusal) → t.admission ≡ Err r → t.lines ≡ no_lines
 
   module _ (P : SheetLines → Type 0) (text : List ℕ) (none : P no_lines)
-      (more : (p line next : ℕ) (s : SheetLines) (l : Line) → line_at text p line ≡ L.Read l next → line_fault form line s l ≡ A.Granted → P s
+      (more : (p line next : ℕ) (s : SheetLines) (l : Line) → line_at text p line ≡ L.Read l next → line_fault form line s l ≡ Ok tt → P s
       → P (with_line s l)) where
     of_refused : (r : Refusal) → Whole P (refused r)
     unfolding refused
     of_refused r = record { lines = none; ended = λ e. refused_not_granted e; empty = λ f e. refl }
 
-    after : (a : Admission) (t : SheetText) → (a ≡ A.Granted → Whole P t) → Whole P (on_admission a t)
-    after A.Granted t k = k refl
-    after (A.Refused r) t k = of_refused r
+    after : (a : Admission) (t : SheetText) → (a ≡ Ok tt → Whole P t) → Whole P (on_admission a t)
+    after (Ok _) t k = k refl
+    after (Err r) t k = of_refused r
 
     at_end : (s : SheetLines) → P s → Whole P (on_admission (end_fault form s) (taken s))
     at_end s h = after (end_fault form s) (taken s) (λ e. record { lines = h; ended = λ f. e; empty = λ r f. refused_not_granted (sym f) })

@@ -13,8 +13,8 @@ use Rattle.model.specs.Refusal.{number, returned}
 use Rattle.model.specs.Admission.{passed}
 use Rattle.model.specs.declared.Refusal.{Refusal}
 use Rattle.model.specs.declared.Refusal.TheVariants.{Malformed, OutOfRange, KindTooEarly, TooMany, KindMissing, OutOfOrder, TooFewPlaces}
-use Rattle.model.specs.declared.Admission.{Admission}
-use Rattle.model.specs.declared.Admission.TheVariants.{Granted, Refused}
+use Rattle.std.specs.Prelude.{Ok, Err}
+use Rattle.model.specs.Replies.{Admission}
 use Rattle.model.specs.declared.Form.{Form}
 use Rattle.lines.specs.Lines.{line_at}
 use Rattle.fields.proofs.FieldLaws.{by_test}
@@ -37,13 +37,13 @@ true_is_not_false e = let z : ◌≡◌ {A = ℕ} 0 1 = cc in absurd (omega arit
 
 -- what is said of the answer to a text
 record Tells (text : List ℕ) (a : Admission) : Type 0 where
-  pub refusal : (r : Refusal) → a ≡ Refused r → TextRefusal text r
+  pub refusal : (r : Refusal) → a ≡ Err r → TextRefusal text r
 
 module _ (text : List ℕ) where
-  granted_tells : Tells text Granted
+  granted_tells : Tells text (Ok tt)
   granted_tells = record { refusal = λ r e. refused_not_granted (sym e) }
 
-  refusal_tells : (r : Refusal) → TextRefusal text r → Tells text (Refused r)
+  refusal_tells : (r : Refusal) → TextRefusal text r → Tells text (Err r)
   refusal_tells r t = record { refusal = λ q e. let k : r ≡ q = cc in subst (TextRefusal text) k t }
 
   test_tells : (b : Bool) (r : Refusal) (next : Admission) → (b ≡ false → TextRefusal text r) → Tells text next → Tells text (passed b r next)
@@ -77,8 +77,8 @@ module _ (text : List ℕ) where
 
   after_admission : (a : Admission) (t : SheetText) → Tells text a → Tells text t.admission → Tells text (on_admission a t).admission
   unfolding refused
-  after_admission Granted t h k = k
-  after_admission (Refused r) t h k = h
+  after_admission (Ok _) t h k = k
+  after_admission (Err r) t h k = h
 
   module _ (form : Form) where
     -- after the last line of the text
@@ -114,7 +114,7 @@ module _ (text : List ℕ) where
         (λ e. ended_tells s (rw e at all))
 
 -- there are no more lines than bytes
-pub text_refusal : (form : Form) (text : List ℕ) (r : Refusal) → (read_from form text 0).admission ≡ Refused r → TextRefusal text r
+pub text_refusal : (form : Form) (text : List ℕ) (r : Refusal) → (read_from form text 0).admission ≡ Err r → TextRefusal text r
 unfolding read_from lines_in
 text_refusal form text r e = (lines_tell text form (length text) 0 1 no_lines (omega arith) (omega arith) refl).refusal r e
 

@@ -12,11 +12,11 @@ use Rattle.sheet.specs.Reading.{refused, read_from}
 use Rattle.sheet.specs.Sheets.{window_reading, timetable_reading}
 use Rattle.sheet.specs.OrderNames.{name_in}
 use Rattle.sheet.specs.TextCases.{text_a, text_h, text_short, Try, tries}
-use Rattle.model.specs.declared.Admission.TheVariants.{Granted, Refused}
+use Rattle.std.specs.Prelude.{Ok, Err}
 use Rattle.model.specs.declared.Form.TheVariants.{Windows}
 
 -- the sheet that document 01 prints is the model's case a
-pub a_is_read : ((window_reading text_a).admission ≡ Granted) × ((window_reading text_a).sheet ≡ memory_a)
+pub a_is_read : ((window_reading text_a).admission ≡ Ok tt) × ((window_reading text_a).sheet ≡ memory_a)
 unfolding window_reading text_a
     number_field number_at run_of decimal_of name_field number_count record_of numbers_from number_fields no_lines refused
 a_is_read = (refl, refl)
@@ -27,7 +27,7 @@ unfolding timetable_reading text_h
 h_is_read = refl
 
 -- places to spare are no fault
-pub short_is_read : (timetable_reading text_short).admission ≡ Granted
+pub short_is_read : (timetable_reading text_short).admission ≡ Ok tt
 unfolding timetable_reading text_short
     number_field number_at run_of decimal_of name_field number_count record_of numbers_from number_fields no_lines refused
 short_is_read = refl
@@ -38,7 +38,7 @@ unfolding name_in text_a
     number_field number_at run_of decimal_of name_field number_count record_of numbers_from number_fields no_lines refused
 name_of_b = refl
 
-pub all_refused : map (λ (t : Try). (read_from t.form (bytes t.text) 0).admission) tries ≡ map (λ (t : Try). Refused t.refusal) tries
+pub all_refused : map (λ (t : Try). (read_from t.form (bytes t.text) 0).admission) tries ≡ map (λ (t : Try). Err t.refusal) tries
 unfolding read_from bytes tries
     number_field number_at run_of decimal_of name_field number_count record_of numbers_from number_fields no_lines refused
 all_refused = refl

@@ -8,26 +8,26 @@ use Rattle.model.specs.declared.Form.{Form}
 use Rattle.lines.specs.declared.Line.{Line}
 use Rattle.lines.specs.declared.LineAt.{LineAt}
 use Rattle.lines.specs.declared.LineAt.TheVariants as L
-use Rattle.model.specs.declared.Admission.{Admission}
-use Rattle.model.specs.declared.Admission.TheVariants as A
+use Rattle.std.specs.Prelude.{Ok, Err}
+use Rattle.model.specs.Replies.{Admission}
 use Rattle.gather.specs.declared.SheetLines.{SheetLines}
 use Rattle.sheet.specs.declared.SheetText.{SheetText}
 
 -- all lines together, or the first refusal; "no sheet is given" then
 abbrev pub taken : SheetLines → SheetText
-taken s = record { admission = A.Granted; lines = s }
+taken s = record { admission = (Ok tt); lines = s }
 
 unfoldable pub refused : Refusal → SheetText
 unfolding no_lines
-refused r = record { admission = A.Refused r; lines = no_lines }
+refused r = record { admission = Err r; lines = no_lines }
 
 abbrev pub on_line : LineAt → (Line → ℕ → SheetText) → SheetText
 on_line (L.Read l next) rest = rest l next
 on_line (L.Refused r) rest = refused r
 
 abbrev pub on_admission : Admission → SheetText → SheetText
-on_admission A.Granted rest = rest
-on_admission (A.Refused r) rest = refused r
+on_admission (Ok _) rest = rest
+on_admission (Err r) rest = refused r
 
 -- the lines from position p on, after those that gave s; the next has the number `line`. No more than n lines are left.
 unfoldable pub read_lines : Form → ℕ → List ℕ → ℕ → ℕ → SheetLines → SheetText

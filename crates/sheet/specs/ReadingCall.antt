@@ -6,8 +6,8 @@ use Rattle.model.specs.Limits.{Inside, inside, ◌–◌}
 use Rattle.model.specs.Refusal.{number, returned}
 use Rattle.model.specs.Admission.{Admitted}
 use Rattle.model.specs.declared.Refusal.{Refusal}
-use Rattle.model.specs.declared.Admission.{Admission}
-use Rattle.model.specs.declared.Admission.TheVariants.{Granted, Refused}
+use Rattle.std.specs.Prelude.{Ok, Err}
+use Rattle.model.specs.Replies.{Admission}
 use Rattle.fields.specs.NamePlaces.{NamesLie}
 use Rattle.fields.specs.declared.NamePlaces.{NamePlaces}
 use Rattle.gather.specs.declared.SheetLines.{SheetLines}
@@ -33,10 +33,10 @@ pub record TextRefusal (text : List ℕ) (r : Refusal) : Type 0 where
 pub record ReadingCall {R : Type 0} (text : List ℕ) (defined given : R) (admission : Admission) (sheet : Sheet) (names : NamePlaces) : Type 0 where
   pub equal : given ≡ defined
   -- what is read passes every test of a planning call
-  pub admitted : admission ≡ Granted → Admitted sheet
-  pub refused : (r : Refusal) → admission ≡ Refused r → TextRefusal text r
+  pub admitted : admission ≡ Ok tt → Admitted sheet
+  pub refused : (r : Refusal) → admission ≡ Err r → TextRefusal text r
   -- "no sheet is given"
-  pub no_sheet : (r : Refusal) → admission ≡ Refused r → (sheet.orders ≡ 0) × (sheet.trains ≡ 0)
+  pub no_sheet : (r : Refusal) → admission ≡ Err r → (sheet.orders ≡ 0) × (sheet.trains ≡ 0)
   -- each order has a name, which lies in the text
   pub named : names.count ≡ sheet.orders
   pub names_lie : NamesLie text names

@@ -16,12 +16,12 @@ use borders::{to_timetable, to_windows};
 use fields::name::{name_part, name_place};
 use fields::{NamePlace, NamePlaces};
 use gather::SheetLines;
-use model::{Admission, Form, Sheet, TimetableSheet, WindowSheet};
+use model::{Form, Refusal, Sheet, TimetableSheet, WindowSheet};
 
 // All lines of a text; none where it is refused.
 #[derive(Clone, Copy)]
 struct SheetText {
-    admission: Admission,
+    admission: Result<(), Refusal>,
     lines: SheetLines,
 }
 
@@ -35,7 +35,7 @@ struct Reader<'a> {
 // What reading a text gives: what the tests say of it, the sheet, and where the names of its orders stand; beside a refusal the empty sheet and no names.
 #[derive(Clone, Copy)]
 pub struct Reading {
-    pub admission: Admission,
+    pub admission: Result<(), Refusal>,
     pub sheet: Sheet,
     pub names: NamePlaces,
 }
@@ -59,7 +59,7 @@ pub fn read(text: &[u8], form: Form) -> Reading
 // What `read` gives, with the struct of the window form.
 #[derive(Clone, Copy)]
 pub struct WindowReading {
-    pub admission: Admission,
+    pub admission: Result<(), Refusal>,
     pub sheet: WindowSheet,
     pub names: NamePlaces,
 }
@@ -83,7 +83,7 @@ pub fn read_windows(text: &[u8]) -> WindowReading
 // What `read` gives, with the struct of the timetable form.
 #[derive(Clone, Copy)]
 pub struct TimetableReading {
-    pub admission: Admission,
+    pub admission: Result<(), Refusal>,
     pub sheet: TimetableSheet,
     pub names: NamePlaces,
 }

@@ -10,14 +10,14 @@ use gather::end_tests::end_fault;
 use gather::line_tests::line_fault;
 use gather::more_lines::{no_lines, with_line};
 use lines::{LineAt, line_at};
-use model::{Admission, Form, Refusal};
+use model::{Form, Refusal};
 
 fn refused_text(refusal: Refusal) -> SheetText
     ensures { result ≡ refused refusal }
 {
     let lines = no_lines();
     SheetText {
-        admission: Admission::Refused(refusal),
+        admission: Err(refusal),
         lines,
     }
 }
@@ -28,9 +28,9 @@ fn ended_text(form: Form, lines: SheetLines) -> SheetText
     ensures { result ≡ on_admission (end_fault form lines) (taken lines) }
 {
     match end_fault(form, lines) {
-        Admission::Refused(refusal) => refused_text(refusal),
-        Admission::Granted => SheetText {
-            admission: Admission::Granted,
+        Err(refusal) => refused_text(refusal),
+        Ok(()) => SheetText {
+            admission: Ok(()),
             lines,
         },
     }
@@ -49,7 +49,7 @@ pub fn lines_from(text: &[u8], start: usize, form: Form) -> SheetText
                 return refused_text(refusal);
             }
             LineAt::Read(read, next) => {
-                if let Admission::Refused(refusal) = line_fault(form, line, lines, read) {
+                if let Err(refusal) = line_fault(form, line, lines, read) {
                     return refused_text(refusal);
                 }
                 lines = with_line(lines, read);

@@ -6,8 +6,8 @@ use Rattle.numbers.specs.Over.{over}
 use Rattle.model.specs.Sheet.{Sheet}
 use Rattle.model.specs.Limits.{numbers_a_pair}
 use Rattle.model.specs.Refusal.{number_of}
-use Rattle.model.specs.declared.Admission.{Admission}
-use Rattle.model.specs.declared.Admission.TheVariants.{Granted, Refused}
+use Rattle.std.specs.Prelude.{Ok, Err}
+use Rattle.model.specs.Replies.{Admission}
 use Rattle.model.specs.declared.Refusal.{Refusal}
 use Rattle.rounds.specs.Recording.{listed}
 use Rattle.rounds.proofs.RecordingLaws.{listed_length}
@@ -39,7 +39,7 @@ module _ (s : Sheet) (lent : SearchAreas) (t : Admission) (is : t ≡ start_to s
   unfolding areas_by start_from last_plan plan_left listed pair_numbers
   areas_begun = refl
 
-  left_begun : t ≡ Granted → (p : Progress) → Shows s p (start s) → LeftBy s lent started (state_of p 0) lent
+  left_begun : t ≡ Ok tt → (p : Progress) → Shows s p (start s) → LeftBy s lent started (state_of p 0) lent
   unfolding start_to search_by start_from
   left_begun e p shows =
       record {
@@ -50,7 +50,7 @@ module _ (s : Sheet) (lent : SearchAreas) (t : Admission) (is : t ≡ start_to s
         areas_are = areas_begun;
       }
 
-  pub start_granted : t ≡ Granted → (p : Progress) → Shows s p (start s) → StartCall s lent (start_gives (state_of p 0))
+  pub start_granted : t ≡ Ok tt → (p : Progress) → Shows s p (start s) → StartCall s lent (start_gives (state_of p 0))
   start_granted e p shows =
       let refuses = start_refuses s lent in
       record {
@@ -62,7 +62,7 @@ module _ (s : Sheet) (lent : SearchAreas) (t : Admission) (is : t ≡ start_to s
         seven = rw is refuses.as_any.seven;
       }
 
-  pub start_refused : (f : Refusal) → t ≡ Refused f → StartCall s lent (start_gives no_state)
+  pub start_refused : (f : Refusal) → t ≡ Err f → StartCall s lent (start_gives no_state)
   start_refused f e =
       let refuses = start_refuses s lent in
       record {

@@ -3,8 +3,8 @@ use Rattle.std.specs.Prelude.{◌≡◌, Bool, false, not, ◌&&◌, ℕ, ◌≤
 use Rattle.std.proofs.Common.{sym, ap, ◌∙◌, subst, arith}
 use Rattle.numbers.specs.DecidesLaws.{Decides, decides_le, decides_and, decides_iff, test_true}
 use Rattle.model.specs.Sheet.{Sheet}
-use Rattle.model.specs.declared.Admission.{Admission}
-use Rattle.model.specs.declared.Admission.TheVariants.{Granted, Refused}
+use Rattle.std.specs.Prelude.{Ok, Err}
+use Rattle.model.specs.Replies.{Admission}
 use Rattle.model.specs.declared.Refusal.{Refusal}
 use Rattle.rounds.specs.Areas.{tested}
 use Rattle.rounds.specs.Rounds.{Search, going, ended, recorded_in, start, rounds}
@@ -68,14 +68,14 @@ module _ (s : Sheet) (state : State) (pairs trains times : ℕ) (t : Admission) 
   abbrev FitsAt : Type 0
   FitsAt = Fits s state pairs trains times
 
-  pub unfit : (r : Refusal) → t ≡ Refused r → Decides FitsAt false
+  pub unfit : (r : Refusal) → t ≡ Err r → Decides FitsAt false
   unfit r e =
       record {
         sound = λ x. absurd x;
         complete = λ f. let granted = is ∙ passes s _ f.admitted f.room in absurd (let z : ◌≡◌ {A = ℕ} 0 1 = cc in omega arith);
       }
 
-  module _ (granted : t ≡ Granted) where
+  module _ (granted : t ≡ Ok tt) where
     abbrev few_test : Bool
     few_test = leb state.pairs state.rounds && leb state.rounds (rounds_bound s)
 

@@ -4,7 +4,7 @@ use Rattle.model.specs.Sheet.{Sheet, places}
 use Rattle.model.specs.Schedule.{Schedule}
 use Rattle.model.specs.Limits.{numbers_a_pair}
 use Rattle.model.specs.Refusal.{of_round, number_of, returned_of}
-use Rattle.model.specs.declared.Admission.TheVariants.{Granted}
+use Rattle.std.specs.Prelude.{Ok}
 use Rattle.model.specs.declared.RoundReply.TheVariants.{Ended}
 use Rattle.rounds.specs.Prompt.{Prompt}
 use Rattle.rounds.specs.ByRound.{SearchAreas, start_to, Calls, started, then_round, search_by, seen, said}
@@ -21,7 +21,7 @@ pub record StartCall (s : Sheet) (lent : SearchAreas) (r : Started) : Type 0 whe
   -- "The start alone gives the refusals up to 10, for all three areas."
   pub equal : r.admission ≡ start_to s lent
   -- an accepted one gives the state before the first round
-  pub begins : r.admission ≡ Granted → LeftBy s lent started r.state lent
+  pub begins : r.admission ≡ Ok tt → LeftBy s lent started r.state lent
   -- a refused one gives none, and never 8
   pub beside : 1 ≤ number_of r.admission → r.state ≡ no_state
   pub no_eight : ¬ (number_of r.admission ≡ 8)

@@ -5,7 +5,7 @@ ghost use Rattle.watch.specs.Fit.{Fits};
 
 use crate::State;
 use crate::keeping::resume;
-use model::{Admission, Sheet};
+use model::Sheet;
 
 // The sheet passes the tests, the areas have room, no more pairs are recorded than rounds were made and no more of these than the sheet's figure, and while the
 // search goes on a round can be made.
@@ -13,7 +13,7 @@ pub fn fits(state: State, sheet: Sheet, pairs: usize, trains: usize, times: usiz
     ensures { Decides (Fits (sheet_of sheet) state pairs trains times) result }
 {
     let tested = room::for_search(sheet, pairs, trains, times);
-    let Admission::Granted = tested else {
+    let Ok(()) = tested else {
         return false;
     };
     let most = bound::figure(sheet);

@@ -9,7 +9,7 @@ pub mod round;
 pub mod start;
 
 use model::limits::MOST_ORDERS;
-use model::{Admission, RoundReply};
+use model::{Refusal, RoundReply};
 
 // Where a search stands between two calls, laid out as in C: how many pairs are recorded and how many rounds were made, the limit, the last arrival of the pair
 // recorded last, whether the search has ended (not 0), each order's train in the last round (0 for none), and its latest train. Any numbers may stand in it.
@@ -28,7 +28,7 @@ pub struct State {
 // What a start gives: the state, or the refusal beside noughts.
 #[derive(Clone, Copy)]
 pub struct Started {
-    pub admission: Admission,
+    pub admission: Result<(), Refusal>,
     pub state: State,
 }
 

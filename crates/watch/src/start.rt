@@ -5,7 +5,7 @@ ghost use Rattle.watch.specs.Calls.{StartCall};
 
 use crate::Started;
 use crate::keeping::{keep, no_state};
-use model::{Admission, Sheet, TimetableSheet, WindowSheet};
+use model::{Sheet, TimetableSheet, WindowSheet};
 use search::start::start_search;
 
 // Starts a search on a sheet of either form. Of the areas only the lengths are read.
@@ -13,7 +13,7 @@ pub fn start(sheet: Sheet, pairs: &[i64], train_of_order: &[u8], times: &[u32]) 
     ensures { StartCall (sheet_of sheet) (all_areas pairs.now train_of_order.now times.now) result }
 {
     let tested = room::for_search(sheet, pairs.len(), train_of_order.len(), times.len());
-    if let Admission::Refused(_) = tested {
+    if let Err(_) = tested {
         return Started {
             admission: tested,
             state: no_state(),

@@ -4,8 +4,8 @@ use Rattle.std.proofs.Common.{◌∙◌, ap, subst, arith}
 use Rattle.model.specs.Sheet.{Sheet}
 use Rattle.model.specs.Limits.{numbers_a_pair}
 use Rattle.model.specs.Refusal.{of_round, number_of, returned_of}
-use Rattle.model.specs.declared.Admission.{Admission}
-use Rattle.model.specs.declared.Admission.TheVariants as admission
+use Rattle.std.specs.Prelude.{Ok, Err}
+use Rattle.model.specs.Replies.{Admission}
 use Rattle.model.specs.declared.RoundReply.{RoundReply}
 use Rattle.model.specs.declared.RoundReply.TheVariants.{GoesOn, Ended, Refused}
 use Rattle.rounds.specs.ByRound.{SearchAreas}
@@ -22,13 +22,13 @@ use Rattle.watched.specs.declared.Round.{Round}
 -- ---- a start
 
 cause_in_is : (a : Admission) → cause_in a ≡ record { number = number_of a; returned = returned_of a }
-cause_in_is admission.Granted = refl
-cause_in_is (admission.Refused r) = refl
+cause_in_is (Ok _) = refl
+cause_in_is (Err r) = refl
 
 -- an answer without a number is accepted
-accepted : (a : Admission) → number_of a ≡ 0 → a ≡ admission.Granted
-accepted admission.Granted e = refl
-accepted (admission.Refused r) e = absurd (omega (arith, numbered r))
+accepted : (a : Admission) → number_of a ≡ 0 → a ≡ Ok tt
+accepted (Ok _) e = refl
+accepted (Err r) e = absurd (omega (arith, numbered r))
 
 pub exported_start : (s : Sheet) (lent : SearchAreas) (x : Started) (r : Start) → StartCall s lent x → r ≡ start_of x → ExportedStart s lent r
 exported_start s lent x r call e =

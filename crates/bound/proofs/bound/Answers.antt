@@ -2,7 +2,7 @@
 use mathlib.Core.Path.{sym, ap, ◌∙◌}
 use Rattle.model.specs.Memory.{sheet_of}
 use Rattle.model.proofs.AdmissionLaws.{admitted_means}
-use Rattle.model.specs.declared.BoundReply.TheVariants.{Bounded}
+use Rattle.std.specs.Prelude.{Ok}
 use Rattle.bound.proofs.BoundCallLaws.{told_refused, told_figure, bound_call}
 use Rattle.bound.proofs.bound.Goals as goal
 
@@ -18,4 +18,4 @@ figure-requires c =
 pub returns : goal.returns
 returns c =
     let s = sheet_of c.args.sheet in
-    bound_call s _ (ap Bounded c.figure.ensures ∙ told_figure s _ c.admit-admission.ensures c.in_default.is)
+    bound_call s _ (ap Ok c.figure.ensures ∙ told_figure s _ c.admit-admission.ensures c.in_default.is)

@@ -6,7 +6,7 @@ use Rattle.layout.proofs.refusal_line.Goals as goal
 pub returns : goal.returns
 unfolding refusal_line
 returns c =
-    rw (← c.refusal_number-number.ensures, ← c.refusal_returned-returned.ensures)
+    rw (← c.number-number.ensures, ← c.returned-returned.ensures)
     (pass_then _ _ _ _
     (pass_then _ _ _ _ (pass_then _ _ _ _ c.put-kind.ensures c.number_field-first.ensures) c.number_field-second.ensures)
     c.put.ensures)
