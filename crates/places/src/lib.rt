@@ -12,10 +12,8 @@ fn places_of(capacity: &[u32], trains: usize) -> usize
     ensures { result ≡ places (nth capacity.now) trains }
 {
     let mut sum: usize = 0;
-    let mut i: usize = 0;
-    while i < trains {
-        sum += capacity[i] as usize;
-        i += 1;
+    for &places in &capacity[..trains] {
+        sum += places as usize;
     }
     sum
 }
