@@ -39,10 +39,8 @@ pub fn none_above(q: usize, column: [u32; MOST_TRAINS], other: [u32; MOST_TRAINS
     ensures { result ≡ each (λ i. leb (nth column i) (nth other i)) q }
 {
     let mut kept = true;
-    let mut i: usize = 0;
-    while i < q {
+    for i in 0..q {
         kept = (column[i] <= other[i]) & kept;
-        i += 1;
     }
     kept
 }
