@@ -10,10 +10,8 @@ pub fn all_inside(column: &[u32], count: usize, least: u32, most: u32) -> bool
     ensures { result ≡ every (inside_at (least – most) column.now) count }
 {
     let mut all = true;
-    let mut j: usize = 0;
-    while j < count {
-        all = (least <= column[j]) & (column[j] <= most) & all;
-        j += 1;
+    for &value in &column[..count] {
+        all = (least <= value) & (value <= most) & all;
     }
     all
 }
@@ -29,12 +27,8 @@ pub fn all_apart<'a>(a: &'a [u32], b: &'a [u32], count: usize, ahead: usize, by:
     ensures { result ≡ every (apart_at ahead by a.now b.now) (count - ahead) }
 {
     let mut all = true;
-    let mut j: usize = 0;
-    let mut k: usize = ahead;
-    while k < count {
-        all = (a[j] as u64 + by <= b[k] as u64) & all;
-        j += 1;
-        k += 1;
+    for k in ahead..count {
+        all = (a[k - ahead] as u64 + by <= b[k] as u64) & all;
     }
     all
 }
