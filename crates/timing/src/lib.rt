@@ -12,7 +12,7 @@ ghost use Rattle.rounds.specs.Rounds.{times as times_of};
 ghost use Rattle.columns.specs.Columns.{UpTo, Loaded};
 ghost use Rattle.timing.specs.Timed.{OnTrains, never, departed_in, timed_in, times_since};
 
-use columns::{larger, last_of, none_above, of_train};
+use columns::{last_of, none_above, of_train};
 use model::limits::{LAST_INSTANT, MOST_ORDERS, MOST_TRAINS};
 use model::{Form, Sheet};
 
@@ -46,11 +46,9 @@ fn releases(
     ensures { result ≡ row (awaited (nth since) (at release) (take n train) n) train_counts.most }
 {
     let mut released = since;
-    let mut j: usize = 0;
-    while j < n {
+    for j in 0..n {
         let m = (train[j] - 1) as usize;
-        released[m] = larger(release[j], released[m]);
-        j += 1;
+        released[m] = release[j].max(released[m]);
     }
     released
 }
@@ -70,12 +68,12 @@ fn find_departures(sheet: Sheet, released: [u32; MOST_TRAINS]) -> Leaving
     let mut i: usize = 0;
     let mut m: usize = 0;
     while (i < sheet.train_count) & (m < sheet.window_count) {
-        t = larger(t, released[i]);
+        t = t.max(released[i]);
         if to[m] < t {
             m += 1;
             continue;
         }
-        t = larger(t, from[m]);
+        t = t.max(from[m]);
         departure[i] = t;
         window[i] = (m + 1) as u8;
         t += sheet.gap;
@@ -97,12 +95,13 @@ fn arrivals_to(
 {
     let own = of_train(departure, i) + of_train(running, i);
     if i == 1 {
-        return [own; MOST_TRAINS];
+        [own; MOST_TRAINS]
+    } else {
+        let mut arrival = arrivals_to(gap, running, departure, i - 1);
+        let j = (i - 1) as usize;
+        arrival[j] = (arrival[j - 1] + gap).max(own);
+        arrival
     }
-    let mut arrival = arrivals_to(gap, running, departure, i - 1);
-    let j = (i - 1) as usize;
-    arrival[j] = larger(arrival[j - 1] + gap, own);
-    arrival
 }
 
 // The arrivals that follow from the departures in the window form.
@@ -119,15 +118,9 @@ pub fn arrive(sheet: Sheet, departure: [u32; MOST_TRAINS]) -> [u32; MOST_TRAINS]
     requires { Admitted (sheet_of sheet) × UpTo last_instant sheet.train_count departure }
     ensures { take sheet.train_count result ≡ row (arrival_of (sheet_of sheet).paths (nth departure)) sheet.train_count }
 {
-    let form = sheet.form;
-    match form {
-        Form::Windows => {
-            return find_arrivals(sheet, departure);
-        }
-        Form::Timetable => {
-            let arrival = sheet.arrival;
-            return arrival;
-        }
+    match sheet.form {
+        Form::Windows => find_arrivals(sheet, departure),
+        Form::Timetable => sheet.arrival,
     }
 }
 
@@ -144,34 +137,32 @@ pub fn time_trains_since(sheet: Sheet, train: [u8; MOST_ORDERS], since: [u32; MO
     requires { Admitted (sheet_of sheet) × Loaded (sheet_of sheet) train }
     ensures { timed_in sheet.train_count result ≡ times_since (sheet_of sheet) (nth since) (take sheet.order_count train) }
 {
-    let form = sheet.form;
-    let release = sheet.release;
-    let released = releases(sheet.order_count, release, train, since);
-    match form {
+    let released = releases(sheet.order_count, sheet.release, train, since);
+    match sheet.form {
         Form::Windows => {
             let leaving = find_departures(sheet, released);
             let departure = leaving.departure;
             let window = leaving.window;
             let arrival = find_arrivals(sheet, departure);
             let runs = last_of(departure, sheet.train_count) < NEVER;
-            return Times {
+            Times {
                 runs,
                 departure,
                 arrival,
                 window,
-            };
+            }
         }
         Form::Timetable => {
             let departure = sheet.departure;
             let runs = none_above(sheet.train_count, released, departure);
             let arrival = sheet.arrival;
             let window = [0u8; MOST_TRAINS];
-            return Times {
+            Times {
                 runs,
                 departure,
                 arrival,
                 window,
-            };
+            }
         }
     }
 }

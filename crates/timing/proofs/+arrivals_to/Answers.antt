@@ -31,13 +31,13 @@ overflow_add-arrival t c =
       p.2,
     )
 
-pub returns : goal.returns
-returns t c =
+pub returns-else-i-eq1 : goal.returns-else-i-eq1
+returns-else-i-eq1 t c =
     let a = c.args in
     let p = c.requires.le_i in
     let l = c.arrivals_to-arrival in
     let own : c.of_train.result + c.of_train-2.result ≡ nth a.departure.now a.i + nth a.running.now a.i =
     omega (arith, c.of_train.ensures, c.of_train-2.ensures) in
     arrivals_more a.gap a.running.now a.departure.now l.result a.i _ (λ z. omega (arith, p.0)) (omega (arith, p.1)) l.ensures
-    (c.larger.ensures
+    (c.max.ensures
     ∙ arrives_behind a.gap a.running.now a.departure.now l.result a.i _ (omega (arith, c.if-i-eq1.false, p.0)) own l.ensures)

@@ -31,7 +31,7 @@ overflow_add-t c =
     let range = within.windows (suc m) (omega arith) (omega (arith, more.1)) in
     omega (
       arith,
-      c.larger-t-in-loop-i.ensures,
+      c.max-t-in-loop-i.ensures,
       c.if-to-m.false,
       range.from.1,
       range.to.1,
@@ -47,15 +47,15 @@ loop-i-preserved c =
     let inv = c.loop-i.invariant in
     let i = c.loop-i.i in
     let m = c.loop-i.m in
-    let t = c.larger-t in
-    let v = c.larger-t-in-loop-i.result in
+    let t = c.max-t in
+    let v = c.max-t-in-loop-i.result in
     let within = windows_in_range w c.requires.0 c.requires.1 in
     let more = both_to_come i _ m _ c.loop-i-test.true in
     let range = within.windows (suc m) (omega arith) (omega (arith, more.1)) in
     let few : i < 32 = omega (arith, more.0, c.requires.0.few.trains) in
     let early : v ≤ 100000 =
-    omega (arith, c.larger-t-in-loop-i.ensures, c.if-to-m.false, range.from.1, range.to.1, nth_at w.window_from m, nth_at w.window_to m) in
-    let e : v ≡ max t.result (nth w.window_from (m + 1)) = rw (add-one m) (omega (arith, c.larger-t-in-loop-i.ensures, nth_at w.window_from m)) in
+    omega (arith, c.max-t-in-loop-i.ensures, c.if-to-m.false, range.from.1, range.to.1, nth_at w.window_from m, nth_at w.window_to m) in
+    let e : v ≡ max t.result (nth w.window_from (m + 1)) = rw (add-one m) (omega (arith, c.max-t-in-loop-i.ensures, nth_at w.window_from m)) in
     let awaited : t.result ≡ earliest w.gap (take i c.loop-i.departure) i (nth s.released (suc i)) = rw (nth_at s.released i) (t.ensures ∙ inv.3) in
     let window : m + 1 ≡ first_window (nth w.window_to) t.result w.window_count =
     add-one m ∙ window_first w.window_to t.result w.window_count m more.1 (λ k h. omega (arith, t.ensures, inv.4 k h))
@@ -67,7 +67,7 @@ loop-i-preserved c =
       left_more c.loop-i.departure i v few early inv.1,
       rw e next,
       earliest_behind w.gap c.loop-i.departure i v _ (omega (arith, inv.1.0, few)),
-      λ k h. omega (arith, inv.4 k h, t.ensures, c.larger-t-in-loop-i.ensures),
+      λ k h. omega (arith, inv.4 k h, t.ensures, c.max-t-in-loop-i.ensures),
     )
 
 pub returns-clause-is : goal.returns-clause-is

