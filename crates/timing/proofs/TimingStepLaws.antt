@@ -5,6 +5,7 @@ use Rattle.std.proofs.Common.{ap, ◌∙◌, subst, inl, inr, add-one, length-se
 use Prim.Native.Nat.{ℕ, zero, suc, ◌+◌, ◌-◌, ◌≤◌, ◌<◌, max}
 use native.Mathlib.Omega.{arith}
 use Rattle.std.proofs.Math.Dec.{T}
+use Rattle.std.specs.Bool.{then_some}
 use Rattle.std.proofs.lemmas.List.{get_or-replicate}
 use Rattle.std.proofs.Math.Seq.{take-suc-set}
 use borrow.Author.Tests.{lt-ltb, le-ltb, eq-eqb, ne_eqb}
@@ -26,8 +27,9 @@ use Rattle.rounds.specs.Timing.{awaited, first_window, earliest, none, departed,
 use Rattle.rounds.specs.Timing.{arrive, on_timetable, stopped, timed, timing}
 use Rattle.rounds.proofs.SameOutsetLaws.{timing_same}
 use Rattle.rounds.specs.Rounds.{times}
-use Rattle.timing.specs.Timed.{never, departed_in, times_since, WindowsOver, HaveLeft}
+use Rattle.timing.specs.Timed.{never, departed_in, timed_in, times_since, WindowsOver, HaveLeft}
 use Rattle.timing.specs.declared.Leaving.{Leaving}
+use Rattle.timing.specs.declared.Times.{Times}
 
 -- a list is the row of its elements
 pub row_nth : (l : List ℕ) (q : ℕ) → q ≤ length l → row (nth l) q ≡ take q l
@@ -272,6 +274,11 @@ module _ (g : ℕ) (running departure : List ℕ) where
         swap a b = omega arith
 
 -- ---- the timing, whole
+
+-- times that are told only where a test passes
+pub timed_when : (q : ℕ) (t : Times) (b : Bool) → timed_in q (then_some b t) ≡ cond b (timed (take q t.departure) (take q t.arrival) (take q t.window)) stopped
+timed_when q t true = refl
+timed_when q t false = refl
 
 pub windows_timed : (w : Windows) (released : ℕ → ℕ) (q : ℕ) (leaves : Bool) (departure arrival window : List ℕ)
     → cond leaves (departed (take q departure) (take q window)) none ≡ departures w released q

@@ -1,5 +1,5 @@
 -- What the timing code asks of a loading, and what its results say of q trains.
-use Rattle.std.specs.Prelude.{◌≡◌, cond, List, [], ℕ, suc, ◌≤◌, ◌<◌, ltb, length, take}
+use Rattle.std.specs.Prelude.{◌≡◌, cond, Option, Some, None, List, [], ℕ, suc, ◌≤◌, ◌<◌, ltb, length, take}
 use Rattle.numbers.specs.Counting.{at, nth}
 use Rattle.model.specs.Sheet.{Sheet}
 use Rattle.model.specs.Limits.{last_instant, train_counts}
@@ -21,8 +21,10 @@ never = suc last_instant
 abbrev pub departed_in : (q : ℕ) → Leaving → Departed
 departed_in q r = cond (ltb (nth r.departure q) never) (departed (take q r.departure) (take q r.window)) none
 
-abbrev pub timed_in : (q : ℕ) → Times → Timed
-timed_in q r = cond r.runs (timed (take q r.departure) (take q r.arrival) (take q r.window)) stopped
+-- the times of q trains: none where step 2 stops the round
+abbrev pub timed_in : (q : ℕ) → Option Times → Timed
+timed_in q None = stopped
+timed_in q (Some r) = timed (take q r.departure) (take q r.arrival) (take q r.window)
 
 -- the times of a loading where train i may leave from `since i` on: places and latest trains have no part in them
 abbrev pub times_since : Sheet → (since : ℕ → ℕ) (train : List ℕ) → Timed

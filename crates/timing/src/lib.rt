@@ -26,10 +26,9 @@ struct Leaving {
     window: [u8; MOST_TRAINS],
 }
 
-// The departures, arrivals and windows of the trains; `runs` is false where step 2 stops the round. A timetable's windows are 0.
+// The departures, arrivals and windows of the trains. A timetable's windows are 0.
 #[derive(Clone, Copy)]
 pub struct Times {
-    pub runs: bool,
     pub departure: [u32; MOST_TRAINS],
     pub arrival: [u32; MOST_TRAINS],
     pub window: [u8; MOST_TRAINS],
@@ -124,16 +123,20 @@ pub fn arrive(sheet: Sheet, departure: [u32; MOST_TRAINS]) -> [u32; MOST_TRAINS]
     }
 }
 
-// The times of the trains that carry these orders, by the sheet's form.
-pub fn time_trains(sheet: Sheet, train: [u8; MOST_ORDERS]) -> Times
+// The times of the trains that carry these orders, by the sheet's form; none where step 2 stops the round.
+pub fn time_trains(sheet: Sheet, train: [u8; MOST_ORDERS]) -> Option<Times>
     requires { Admitted (sheet_of sheet) × Loaded (sheet_of sheet) train }
     ensures { timed_in sheet.train_count result ≡ times_of (sheet_of sheet) (take sheet.order_count train) }
 {
     time_trains_since(sheet, train, [0; MOST_TRAINS])
 }
 
-// The times of the trains that carry these orders and leave no earlier than `since`, by the sheet's form.
-pub fn time_trains_since(sheet: Sheet, train: [u8; MOST_ORDERS], since: [u32; MOST_TRAINS]) -> Times
+// The times of the trains that carry these orders and leave no earlier than `since`, by the sheet's form; none where step 2 stops the round.
+pub fn time_trains_since(
+    sheet: Sheet,
+    train: [u8; MOST_ORDERS],
+    since: [u32; MOST_TRAINS],
+) -> Option<Times>
     requires { Admitted (sheet_of sheet) × Loaded (sheet_of sheet) train }
     ensures { timed_in sheet.train_count result ≡ times_since (sheet_of sheet) (nth since) (take sheet.order_count train) }
 {
@@ -143,26 +146,23 @@ pub fn time_trains_since(sheet: Sheet, train: [u8; MOST_ORDERS], since: [u32; MO
             let leaving = find_departures(sheet, released);
             let departure = leaving.departure;
             let window = leaving.window;
-            let arrival = find_arrivals(sheet, departure);
             let runs = last_of(departure, sheet.train_count) < NEVER;
-            Times {
-                runs,
+            let arrival = find_arrivals(sheet, departure);
+            runs.then_some(Times {
                 departure,
                 arrival,
                 window,
-            }
+            })
         }
         Form::Timetable => {
             let departure = sheet.departure;
-            let runs = none_above(sheet.train_count, released, departure);
             let arrival = sheet.arrival;
             let window = [0u8; MOST_TRAINS];
-            Times {
-                runs,
+            none_above(sheet.train_count, released, departure).then_some(Times {
                 departure,
                 arrival,
                 window,
-            }
+            })
         }
     }
 }
