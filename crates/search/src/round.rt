@@ -32,11 +32,11 @@ pub fn round_from(mut progress: Progress, sheet: Sheet, outset: Outset) -> Progr
         &latest,
         before,
     );
-    let timed = timing::time_trains_since(sheet, train, since);
+    let times = timing::time_trains_since(sheet, train, since);
     progress.better = false;
     progress.rounds = progress.rounds + 1;
     progress.ended = true;
-    if timed.runs {
+    if let Some(timed) = times {
         let weight = sheet.weight;
         let due = sheet.due;
         let departure = timed.departure;

@@ -1,5 +1,5 @@
 -- `search::round::round_from` meets its contract: step 2 stops it, or steps 3 to 5 together are the round. Assumes nothing.
-use Rattle.std.proofs.Common.{◌≡◌, refl, sym, ap, ◌∙◌, subst, Bool, true, cond, List, ℕ}
+use Rattle.std.proofs.Common.{◌≡◌, refl, sym, ap, ◌∙◌, subst, Option, Some, List, ℕ}
 use Rattle.std.proofs.Common.{◌+◌, ◌-◌, ◌≤◌, ◌<◌, take, arith, rules, SFits, w64, to_z-of_z, get_or-take}
 use Rattle.numbers.specs.Counting.{at, nth}
 use Rattle.model.specs.declared.Sheet as sheet
@@ -7,7 +7,7 @@ use Rattle.model.specs.Memory.{sheet_of}
 use Rattle.model.specs.Admission.{Admitted}
 use Rattle.model.specs.Lateness.{worst}
 use Rattle.model.specs.Limits.{last_arrival}
-use Rattle.rounds.specs.Timing.{stopped, timed}
+use Rattle.rounds.specs.Timing.{timed}
 use Rattle.rounds.specs.SettingOut.{Sets}
 use Rattle.rounds.specs.Rounds.{loading_from, times_from}
 use Rattle.columns.specs.Columns.{UpTo, Loaded}
@@ -52,19 +52,15 @@ module _ (m : sheet.Sheet) (o : memory.Outset) (p : Progress) (admitted : Admitt
     rides = subst (Loaded (sheet_of m)) (sym loaded) (loads (sheet_of m) (outset_of m.order_count o) admitted.0 p begun)
 
     -- where they are timed
-    module _ (t : Times) (times : timed_in m.train_count t ≡ times_from (sheet_of m) (outset_of m.order_count o) (take m.order_count train)) where
-      timings : times_from (sheet_of m) (outset_of m.order_count o) loading ≡ timed_in m.train_count t
+    module _ (out : Option Times) (times : timed_in m.train_count out ≡ times_from (sheet_of m) (outset_of m.order_count o) (take m.order_count train)) where
+      timings : times_from (sheet_of m) (outset_of m.order_count o) loading ≡ timed_in m.train_count out
       timings = ap (times_from (sheet_of m) (outset_of m.order_count o)) (sym loaded) ∙ sym times
 
       -- step 2 does not stop it
-      module _ (runs : t.runs ≡ true) where
+      module _ (t : Times) (runs : out ≡ Some t) where
         made : times_from (sheet_of m) (outset_of m.order_count o) loading
             ≡ timed (take m.train_count t.departure) (take m.train_count t.arrival) (take m.train_count t.window)
-        made =
-            timings
-            ∙ ap
-            (λ (b : Bool). cond b (timed (take m.train_count t.departure) (take m.train_count t.arrival) (take m.train_count t.window)) stopped)
-            runs
+        made = timings ∙ ap (timed_in m.train_count) runs
 
         in_time : UpTo last_arrival m.train_count t.arrival
         in_time = made_in_time (sheet_of m) (outset_of m.order_count o) admitted.0 _ t made
@@ -72,8 +68,8 @@ module _ (m : sheet.Sheet) (o : memory.Outset) (p : Progress) (admitted : Admitt
 pub load-train-requires : goal.load-train-requires
 load-train-requires c = to_load c.args.sheet c.args.outset c.args.progress c.requires.admitted c.requires.ended_value.1
 
-pub time_trains_since-timed-requires : goal.time_trains_since-timed-requires
-time_trains_since-timed-requires c = (
+pub time_trains_since-times-requires : goal.time_trains_since-times-requires
+time_trains_since-times-requires c = (
   c.requires.admitted.0,
   loaded_column (sheet_of c.args.sheet) c.load-train.result
       (rides c.args.sheet c.args.outset c.args.progress c.requires.admitted c.requires.ended_value.1 c.load-train.result c.load-train.ensures),
@@ -94,12 +90,12 @@ worst_of-worst-requires c =
     let b = c.requires.ended_value.1 in (
       a.complete.orders,
       in_ranges m a,
-      arrives m a c.load-train.result c.time_trains_since-timed.result.arrival
+      arrives m a c.load-train.result c.in-Some.timed.arrival
           (loaded_column (sheet_of m) c.load-train.result (rides c.args.sheet c.args.outset c.args.progress c.requires.admitted b
           c.load-train.result c.load-train.ensures))
           (in_time c.args.sheet c.args.outset c.args.progress c.requires.admitted b c.load-train.result c.load-train.ensures
-          c.time_trains_since-timed.result c.time_trains_since-timed.ensures
-          c.if-timed.true),
+          c.time_trains_since-times.result c.time_trains_since-times.ensures
+          c.in-Some.timed c.in-Some.is),
     )
 
 pub lower-lowered-requires : goal.lower-lowered-requires
@@ -108,10 +104,10 @@ lower-lowered-requires c =
     let a = c.requires.admitted.0 in
     let b = c.requires.ended_value.1 in (
       in_ranges m a,
-      arrives_to m a c.time_trains_since-timed.result.arrival c.args.progress.latest
+      arrives_to m a c.in-Some.timed.arrival c.args.progress.latest
           (in_time c.args.sheet c.args.outset c.args.progress c.requires.admitted b c.load-train.result c.load-train.ensures
-          c.time_trains_since-timed.result c.time_trains_since-timed.ensures
-          c.if-timed.true)
+          c.time_trains_since-times.result c.time_trains_since-times.ensures
+          c.in-Some.timed c.in-Some.is)
           b.latest,
     )
 
@@ -128,7 +124,7 @@ returns-after-worst-progress-clause-is c =
     let a = c.requires.admitted.0 in
     let b = c.requires.ended_value.1 in
     let p = c.args.progress in
-    let its = c.time_trains_since-timed.result in
+    let its = c.in-Some.timed in
     let train = c.load-train.result in
     -- its worst lateness and the limit are compared as they are
     let fits : SFits w64 p.limit = search rules in
@@ -161,14 +157,14 @@ returns-after-worst-progress-clause-is c =
     let lowered = rw (to_z-of_z {w = w64} left) at c.lower-lowered.ensures
     ∙ lower_taken (at m.weight) (at m.due) its.arrival c.if-worst-progress.progress.limit latest m.train_count m.order_count low in
     round_made (sheet_of m) (outset_of m.order_count c.args.outset) p _ c.requires.ended_value.0 graded.0 b.latest c.load-train.ensures
-    (made m c.args.outset p c.requires.admitted b train c.load-train.ensures its c.time_trains_since-timed.ensures c.if-timed.true) graded.1
+    (made m c.args.outset p c.requires.admitted b train c.load-train.ensures _ c.time_trains_since-times.ensures c.in-Some.timed c.in-Some.is) graded.1
     (lowered, c.is_crowded.ensures)
 
-pub returns-else-timed-clause-is : goal.returns-else-timed-clause-is
-returns-else-timed-clause-is c =
+pub returns-in_default-clause-is : goal.returns-in_default-clause-is
+returns-in_default-clause-is c =
     let b = c.requires.ended_value.1 in
     round_stopped (sheet_of c.args.sheet) (outset_of c.args.sheet.order_count c.args.outset) c.args.progress _ c.requires.ended_value.0 refl
     b.orderly
-    (rw c.if-timed.false at (timings c.args.sheet c.args.outset c.args.progress c.requires.admitted b c.load-train.result c.load-train.ensures
-    c.time_trains_since-timed.result c.time_trains_since-timed.ensures))
+    (rw c.in_default.is at (timings c.args.sheet c.args.outset c.args.progress c.requires.admitted b c.load-train.result c.load-train.ensures
+    c.time_trains_since-times.result c.time_trains_since-times.ensures))
     refl refl refl
