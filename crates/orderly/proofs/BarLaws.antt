@@ -1,9 +1,9 @@
 -- Trains are orderly exactly where they pass the test. Assumes nothing.
-use Rattle.std.specs.Prelude.{◌≡◌, refl, ◌⊎◌, Bool, true, false, ◌||◌, cond, List, ℕ, ◌+◌, ◌-◌, ◌≤◌, ◌<◌, eqb, leb, length, set}
+use Rattle.std.specs.Prelude.{◌≡◌, refl, ◌⊎◌, Bool, true, false, cond, List, ℕ, ◌+◌, ◌-◌, ◌≤◌, ◌<◌, eqb, leb, length, set}
 use Rattle.std.proofs.Common.{sym, ap, ◌∙◌, inl, inr, arith}
 use Rattle.numbers.specs.Counting.{at, nth, count, every}
 use Rattle.numbers.specs.DecidesLaws.{Decides, decides_le, decides_lt, decides_eq, decides_every}
-use Rattle.numbers.specs.DecidesLaws.{decides_or, decides_iff, decided, test_means, test_fails, cond_yes}
+use Rattle.numbers.specs.DecidesLaws.{decides_iff, decided, cond_yes}
 use Rattle.rounds.specs.Riding.{Below, on}
 use Rattle.rounds.proofs.LoadingLaws.{decides_on}
 use Rattle.rounds.specs.Settled.{Could}
@@ -13,7 +13,7 @@ use Rattle.riders.specs.Standing.{standing, beyond, least, Lowest}
 use Rattle.riders.proofs.StandingLaws.{standing_below, below_standing, least_below, least_is}
 use Rattle.riders.specs.Riders.{Counted}
 use Rattle.riders.proofs.CountedLaws.{AtSet, here, elsewhere, at_set}
-use Rattle.orderly.specs.Bars.{Room, bar, Barred, Skip, Skips, Under, AllUnder}
+use Rattle.orderly.specs.Bars.{Room, bar, Barred, Skip, Skips, AllUnder}
 
 module _ (n q : ℕ) (release capacity : ℕ → ℕ) (latest train riders low bars : List ℕ) (few : n ≤ 200) (few_trains : q ≤ 32)
     (releases : (j : ℕ) → j < n → release j ≤ 100000) (may : UpTo q n latest) (counts : Counted n train riders) (lows : Lowest n release train low)
@@ -70,15 +70,6 @@ module _ (n q : ℕ) (release capacity : ℕ → ℕ) (latest train riders low b
       → Decides (Orderly n q release capacity latest train) b
   decides_orderly up room d = decides_iff (back up room) into d
 
--- and where they are not
-pub not_up_to : (n q : ℕ) (release capacity : ℕ → ℕ) (latest train : List ℕ) → ¬ UpTo q n train → Decides (Orderly n q release capacity latest train) false
-not_up_to n q release capacity latest train f = record { sound = λ x. absurd x; complete = λ o. f o.up_to }
-
-pub no_room : (n q : ℕ) (release capacity : ℕ → ℕ) (latest train riders : List ℕ) → q ≤ 32 → Counted n train riders → ¬ Room q capacity riders
-    → Decides (Orderly n q release capacity latest train) false
-no_room n q release capacity latest train riders few c f =
-    record { sound = λ x. absurd x; complete = λ o. f (λ i p l. omega (arith, c.counted i (omega arith), o.room i p l)) }
-
 -- ---- the test's loops
 
 pub decides_room : (q : ℕ) (capacity riders : List ℕ) → Decides (Room q (nth capacity) riders) (every (λ m. leb (at riders (m + 1)) (at capacity m)) q)
@@ -92,30 +83,16 @@ decides_room q capacity riders =
     add_sub : (m : ℕ) → m + 1 - 1 ≡ m
     add_sub m = omega arith
 
--- the trains above k have their bars
-abbrev pub BarredFrom : (q : ℕ) (capacity : ℕ → ℕ) (riders low : List ℕ) (k : ℕ) (bars : List ℕ) → Type 0
-BarredFrom q capacity riders low k bars = (i : ℕ) → k < i → i ≤ q → at bars i ≡ bar capacity riders low i
-
-pub barred_more : (q : ℕ) (capacity : ℕ → ℕ) (riders low bars : List ℕ) (k v : ℕ) → length bars ≡ 33 → k ≤ 32 → 1 ≤ k → v ≡ bar capacity riders low k
-    → BarredFrom q capacity riders low k bars → BarredFrom q capacity riders low (k - 1) (set bars k v)
-barred_more q capacity riders low bars k v long few p is h i l m = go (at_set bars k v i (omega arith))
+-- one train more
+pub barred_more : (capacity : ℕ → ℕ) (riders low bars : List ℕ) (i v : ℕ) → length bars ≡ 33 → 1 ≤ i → i ≤ 32 → v ≡ bar capacity riders low i
+    → (m : ℕ) → m ≤ i → Barred (i - 1) capacity riders low bars → Barred m capacity riders low (set bars i v)
+barred_more capacity riders low bars i v long p few is m last h k l e = go (at_set bars i v k (omega arith))
   where
-    go : AtSet bars k v i → at (set bars k v) i ≡ bar capacity riders low i
+    go : AtSet bars i v k → at (set bars i v) k ≡ bar capacity riders low k
     go (here u w) = w ∙ is ∙ ap (bar capacity riders low) (sym u)
-    go (elsewhere u w) = w ∙ h i (omega arith) m
+    go (elsewhere u w) = w ∙ h k l (omega arith)
 
 -- ---- from one lower bar to the next
-
--- those between i and m are no lower than i, and m is not either: the same up to the next one of m
-pub skip_on : (i q : ℕ) (bars next : List ℕ) (m : ℕ) → Skip i q bars m → m ≤ q → Skips i q bars next → at bars i ≤ at bars m → Skip i q bars (at next m)
-skip_on i q bars next m s l h low =
-    let z = h m s.ahead l in
-    record { ahead = omega (arith, s.ahead, z.ahead); most = z.most; between = λ k a b. go k a b (decided (decides_lt k m)) (decided (decides_eq k m)) }
-  where
-    go : (k : ℕ) → i < k → k < at next m → (k < m) ⊎ (¬ (k < m)) → (k ≡ m) ⊎ (¬ (k ≡ m)) → at bars i ≤ at bars k
-    go k a b (inl u) v = s.between k a u
-    go k a b (inr u) (inl v) = rw v low
-    go k a b (inr u) (inr v) = omega (arith, low, (h m s.ahead l).between k (omega arith) b)
 
 pub skip_first : (i q : ℕ) (bars : List ℕ) → i ≤ q → Skip i q bars (i + 1)
 skip_first i q bars l = record { ahead = omega arith; most = omega arith; between = λ k a b. absurd (omega arith) }
@@ -128,35 +105,3 @@ skips_more i q bars next m long pi few s h k a b = go (at_set next i m k (omega 
     go : AtSet next i m k → Skip k q bars (at (set next i m) k)
     go (here u v) = rw (v, u) s
     go (elsewhere u v) = rw v (h k (omega arith) b)
-
--- below the bars before i, and below that of i: so below all before the next one of i
-pub under_on : (own from q : ℕ) (bars next : List ℕ) (i : ℕ) → ((k : ℕ) → from < k → k < i → own < at bars k) → own < at bars i → 0 < i → i ≤ q
-    → Skips 0 q bars next → (k : ℕ) → from < k → k < at next i → own < at bars k
-under_on own from q bars next i h low p l s k a b = go (decided (decides_lt k i)) (decided (decides_eq k i))
-  where
-    go : (k < i) ⊎ (¬ (k < i)) → (k ≡ i) ⊎ (¬ (k ≡ i)) → own < at bars k
-    go (inl u) v = h k a u
-    go (inr u) (inl v) = rw v low
-    go (inr u) (inr v) = omega (arith, low, (s i p l).between k (omega arith) b)
-
--- one order more: it has no train, or stands below the bars
-pub all_under_more : (release : ℕ → ℕ) (latest train bars : List ℕ) (j : ℕ) {r : Bool} → Decides (Under (standing release j) (at train j) (at latest j) bars) r
-    → (eqb (at train j) 0 || r) ≡ true → AllUnder j release latest train bars → AllUnder (j + 1) release latest train bars
-all_under_more release latest train bars j {r} d passed h y l p = go (decided (decides_eq y j))
-  where
-    own : (at train j ≡ 0) ⊎ Under (standing release j) (at train j) (at latest j) bars → 1 ≤ at train j → Under (standing release j) (at train j)
-        (at latest j) bars
-    own (inl e) k = absurd (omega arith)
-    own (inr u) k = u
-
-    go : (y ≡ j) ⊎ (¬ (y ≡ j)) → Under (standing release y) (at train y) (at latest y) bars
-    go (inl e) = rw e (own (test_means (decides_or (decides_eq (at train j) 0) d) passed) (rw e at p))
-    go (inr e) = h y (omega arith) p
-
-pub not_all_under : (n : ℕ) (release : ℕ → ℕ) (latest train bars : List ℕ) (j : ℕ) → j < n → {r : Bool}
-    → Decides (Under (standing release j) (at train j) (at latest j) bars) r → (eqb (at train j) 0 || r) ≡ false
-    → Decides (AllUnder n release latest train bars) false
-not_all_under n release latest train bars j l {r} d failed =
-    let over = test_fails (decides_or (decides_eq (at train j) 0) d) failed in
-    let some : ¬ (at train j ≡ 0) = λ e. over (inl e) in
-    record { sound = λ x. absurd x; complete = λ h. over (inr (h j l (omega arith))) }

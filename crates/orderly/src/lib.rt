@@ -11,7 +11,7 @@ ghost use Rattle.orderly.specs.Bars.{Room, Barred, Skip, Skips, Under, AllUnder}
 
 use model::limits::{MOST_ORDERS, MOST_TRAINS};
 use riders::moving::TRAINS_AND_NONE;
-use riders::standing::{one_of, standing_of, survey};
+use riders::standing::{Riders, standing_of, survey};
 
 // Whether none of the first n trains of a column is above q.
 pub fn none_above(n: usize, column: &[u8; MOST_ORDERS], q: usize) -> bool
@@ -20,10 +20,9 @@ pub fn none_above(n: usize, column: &[u8; MOST_ORDERS], q: usize) -> bool
 {
     let most = q as u8;
     let mut kept = true;
-    let mut j: usize = 0;
-    while j < n {
-        kept = (column[j] <= most) & kept;
-        j += 1;
+    // no exit, as `all` has: so the compiler takes many trains at once
+    for &train in &column[..n] {
+        kept &= train <= most;
     }
     kept
 }
@@ -34,17 +33,17 @@ fn have_room(q: usize, capacity: &[u32; MOST_TRAINS], riders: [u8; TRAINS_AND_NO
     ensures { Decides (Room q (nth capacity.now) riders) result }
 {
     let mut kept = true;
-    let mut i: usize = 0;
-    while i < q {
-        kept = ((riders[i + 1] as u32) <= capacity[i]) & kept;
-        i += 1;
+    // no exit here either
+    for i in 0..q {
+        kept &= u32::from(riders[i + 1]) <= capacity[i];
     }
     kept
 }
 
 // Each train's bar, which whoever may ride it and rides an earlier one must stand below: the least standing on it, or 0 where it is not full.
+#[tactic(auto, using(crate::proofs::BarLaws::barred_more))]
 fn find_bars(
-    mut q: usize,
+    q: usize,
     capacity: &[u32; MOST_TRAINS],
     riders: [u8; TRAINS_AND_NONE],
     low: &[u32; TRAINS_AND_NONE],
@@ -53,10 +52,9 @@ fn find_bars(
     ensures { Barred q (nth capacity.now) riders low.now result }
 {
     let mut bars = [0u32; TRAINS_AND_NONE];
-    while q > 0 {
-        let full = (riders[q] as u32) == capacity[q - 1];
-        bars[q] = one_of(full, low[q], 0);
-        q -= 1;
+    for i in 1..=q {
+        let full = u32::from(riders[i]) == capacity[i - 1];
+        bars[i] = if full { low[i] } else { 0 };
     }
     bars
 }
@@ -68,10 +66,7 @@ fn next_lower(i: u8, q: u8, bars: &[u32; TRAINS_AND_NONE], next: &[u8; TRAINS_AN
 {
     let own = bars[i as usize];
     let mut m = i + 1;
-    while m <= q {
-        if bars[m as usize] < own {
-            break;
-        }
+    while m <= q && own <= bars[m as usize] {
         m = next[m as usize];
     }
     m
@@ -84,11 +79,8 @@ fn find_skips(q: u8, bars: &[u32; TRAINS_AND_NONE]) -> [u8; TRAINS_AND_NONE]
 {
     let mut next = [0u8; TRAINS_AND_NONE];
     next[q as usize] = q + 1;
-    let mut i = q - 1;
-    while i > 0 {
-        let m = next_lower(i, q, bars, &next);
-        next[i as usize] = m;
-        i -= 1;
+    for i in (1..q).rev() {
+        next[i as usize] = next_lower(i, q, bars, &next);
     }
     next
 }
@@ -128,16 +120,8 @@ fn all_under(
     requires by_index { (q : ℕ) × (q ≤ train_counts.most) × UpTo q n latest.now × Skips 0 q bars.now next.now }
     ensures { Decides (AllUnder n (at release.now) latest.now train.now bars.now) result }
 {
-    let mut j: usize = 0;
-    while j < n {
-        let own = standing_of(release, j);
-        let under = (train[j] == 0) | is_under(own, train[j], latest[j], bars, next);
-        if !under {
-            return false;
-        }
-        j += 1;
-    }
-    true
+    (0..n).all(|j| train[j] == 0
+        || is_under(standing_of(release, j), train[j], latest[j], bars, next))
 }
 
 // Whether the trains of n orders are orderly.
@@ -156,9 +140,7 @@ pub fn are_orderly(
     if !none_above(n, train, q) {
         return false;
     }
-    let found = survey(n, release, train);
-    let riders = found.riders;
-    let low = found.low;
+    let Riders { riders, low } = survey(n, release, train);
     if !have_room(q, capacity, riders) {
         return false;
     }

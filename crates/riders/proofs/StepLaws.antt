@@ -1,46 +1,29 @@
 -- The loops' counts and bounds, one order at a time. Assumes nothing.
-use Rattle.std.specs.Prelude.{◌≡◌, ◌⊎◌, Bool, true, false, cond, List, length, set, replicate}
+use Rattle.std.specs.Prelude.{◌≡◌, Bool, true, false, cond, List, length, set, replicate}
 use Rattle.std.proofs.Math.Path.{refl}
-use Rattle.std.proofs.Common.{sym, ap, ◌∙◌, inl, inr, length-set}
-use Prim.Native.Nat.{ℕ, zero, suc, ◌+◌, ◌≤◌, ◌<◌, max, min}
+use Rattle.std.proofs.Common.{sym, ap, ◌∙◌, length-set}
+use Prim.Native.Nat.{ℕ, zero, suc, ◌+◌, ◌≤◌, min}
 use native.Mathlib.Omega.{arith}
 use Rattle.std.proofs.Math.Numerals.{add-one}
 use Rattle.std.proofs.lemmas.List.{length-replicate, get_or-replicate}
 use Rattle.numbers.specs.Counting.{at, count}
-use Rattle.numbers.specs.DecidesLaws.{Decides, decides_le, decides_eq, decided, test_true, test_false, cond_yes, cond_no}
+use Rattle.numbers.specs.DecidesLaws.{Decides, decides_eq, test_true, test_false}
 use Rattle.numbers.specs.CountingLaws.{count_start, count_yes, count_no}
 use Rattle.rounds.specs.Riding.{on}
-use Rattle.riders.specs.Standing.{standing, beyond, greatest_of, least_of, least, Lowest}
-use Rattle.riders.specs.Riders.{stays, Counted, LeftTo}
+use Rattle.riders.specs.Standing.{standing, beyond, least_of, least, Lowest}
+use Rattle.riders.specs.Riders.{Counted}
 use Rattle.riders.proofs.CountedLaws.{AtSet, here, elsewhere, at_set}
 
 module _ (test : ℕ → Bool) (value : ℕ → ℕ) where
-  pub greatest_start : 0 ≡ greatest_of test value 0
-  unfolding greatest_of
-  greatest_start = refl
-
-  pub greatest_more : (j : ℕ) → greatest_of test value (j + 1) ≡ max (greatest_of test value j) (cond (test j) (value j) 0)
-  unfolding greatest_of
-  greatest_more j = rw add-one
-
-  -- where the next one is looked at
-  pub greatest_next : (j so_far own v : ℕ) → so_far ≡ greatest_of test value j → own ≡ cond (test j) (value j) 0 → v ≡ max so_far own
-      → v ≡ greatest_of test value (j + 1)
-  greatest_next j so_far own v a b c = rw (a, b) at c ∙ sym (greatest_more j)
-
-  pub least_start : beyond ≡ least_of test value 0
+  least_start : beyond ≡ least_of test value 0
   unfolding least_of
   least_start = refl
 
-  pub least_more : (j : ℕ) → least_of test value (j + 1) ≡ min (least_of test value j) (cond (test j) (value j) beyond)
+  least_more : (j : ℕ) → least_of test value (j + 1) ≡ min (least_of test value j) (cond (test j) (value j) beyond)
   unfolding least_of
   least_more j = rw add-one
 
-  pub least_next : (j so_far own v : ℕ) → so_far ≡ least_of test value j → own ≡ cond (test j) (value j) beyond → v ≡ min so_far own
-      → v ≡ least_of test value (j + 1)
-  least_next j so_far own v a b c = rw (a, b) at c ∙ sym (least_more j)
-
-  pub least_most : (j : ℕ) → least_of test value j ≤ beyond
+  least_most : (j : ℕ) → least_of test value j ≤ beyond
   unfolding least_of
   least_most zero = omega arith
   least_most (suc j) = omega (arith, least_most j)
@@ -89,40 +72,3 @@ counted_more train riders j few c =
     go i l (here u w) d =
         omega (arith, ap (at riders) u, c.counted i l, count_yes (on train i) j (test_true d (sym u)))
     go i l (elsewhere u w) d = w ∙ c.counted i l ∙ count_no (on train i) j (test_false d (λ e. u (sym e)))
-
--- ---- those who are too late
-
-module _ (n : ℕ) (latest before : List ℕ) (j : ℕ) (train riders : List ℕ) (s : LeftTo n latest before j train riders) where
-  pub left_late : (after riders' : List ℕ) → j < 200 → at latest j < at train j → after ≡ set train j 0 → Counted n after riders'
-      → LeftTo n latest before (j + 1) after riders'
-  left_late after riders' few late is c =
-      record {
-        done = λ k l. go k l (at_set train j 0 k (omega (arith, s.counts.places)));
-        same = λ k l. ap (λ (t : List ℕ). at t k) is ∙ behind k l (at_set train j 0 k (omega (arith, s.counts.places)));
-        counts = c;
-      }
-    where
-      go : (k : ℕ) → k < j + 1 → AtSet train j 0 k → at after k ≡ stays latest before k
-      go k l (here u v) =
-          ap (λ (t : List ℕ). at t k) is ∙ v
-          ∙ sym (cond_no (decides_le (at before k) (at latest k)) (λ h. omega (arith, ap (at latest) u, ap (at train) u, s.same k (omega arith)))
-          (at before k) 0)
-      go k l (elsewhere u v) = ap (λ (t : List ℕ). at t k) is ∙ v ∙ s.done k (omega arith)
-
-      behind : (k : ℕ) → j + 1 ≤ k → AtSet train j 0 k → at (set train j 0) k ≡ at before k
-      behind k l (here u v) = absurd (omega arith)
-      behind k l (elsewhere u v) = v ∙ s.same k (omega arith)
-
-  pub left_in_time : ¬ (at latest j < at train j) → LeftTo n latest before (j + 1) train riders
-  left_in_time in_time =
-      record {
-        done = λ k l. go k l (decided (decides_eq k j));
-        same = λ k l. s.same k (omega arith);
-        counts = s.counts;
-      }
-    where
-      go : (k : ℕ) → k < j + 1 → (k ≡ j) ⊎ (¬ (k ≡ j)) → at train k ≡ stays latest before k
-      go k l (inl u) =
-          s.same k (omega arith)
-          ∙ sym (cond_yes (decides_le (at before k) (at latest k)) (omega (arith, ap (at latest) u, ap (at train) u, s.same k (omega arith))) (at before k) 0)
-      go k l (inr u) = s.done k (omega arith)

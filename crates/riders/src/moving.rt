@@ -41,36 +41,23 @@ pub fn leave_late(
     ensures leaves { Stays n latest.now train.old train.new }
     ensures counts { Counted n train.new riders.new }
 {
-    let mut j: usize = 0;
-    while j < n {
+    for j in 0..n {
         if latest[j] < train[j] {
             move_order(n, j, 0, train, riders);
         }
-        j += 1;
     }
-}
-
-// The later of a train and the latest train of an order that has none.
-fn waited_for(last: u8, train: u8, latest: u8) -> u8
-    ensures { result ≡ max last (cond (eqb train 0) latest 0) }
-{
-    let own = latest * ((train == 0) as u8);
-    if last < own {
-        return own;
-    }
-    last
 }
 
 // The last train that one of n orders without a train may ride; 0 where there is none.
+#[tactic(auto, unfolding(crate::specs::Standing::greatest_of))]
 pub fn last_waited_for(n: usize, latest: &[u8; MOST_ORDERS], train: &[u8; MOST_ORDERS]) -> u8
     requires { n ≤ order_counts.most }
     ensures { result ≡ waited latest.now train.now n }
 {
     let mut last: u8 = 0;
-    let mut j: usize = 0;
-    while j < n {
-        last = waited_for(last, train[j], latest[j]);
-        j += 1;
+    for j in 0..n {
+        let own = latest[j];
+        last = last.max(if train[j] == 0 { own } else { 0 });
     }
     last
 }

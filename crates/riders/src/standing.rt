@@ -1,5 +1,5 @@
 // Orders by (release, number), which an order's standing joins in one number.
-ghost use Rattle.std.specs.Prelude.{◌≡◌, cond, ◌<◌, ◌≤◌, min, length};
+ghost use Rattle.std.specs.Prelude.{◌≡◌, ◌<◌, ◌≤◌, length};
 ghost use Rattle.numbers.specs.Counting.{at};
 ghost use Rattle.model.specs.Limits.{order_counts, train_counts, last_instant};
 ghost use Rattle.columns.specs.Columns.{UpTo};
@@ -7,7 +7,6 @@ ghost use Rattle.riders.specs.Riders.{Counted};
 ghost use Rattle.riders.specs.Standing.{standing, best, least, Lowest};
 
 use crate::moving::TRAINS_AND_NONE;
-use columns::larger;
 use model::limits::MOST_ORDERS;
 
 // More than an order's number.
@@ -24,27 +23,8 @@ pub fn standing_of(release: &[u32; MOST_ORDERS], j: usize) -> u32
     NUMBERS * release[j] + ((j as u32) + 1)
 }
 
-// The smaller of two numbers.
-fn smaller(a: u32, b: u32) -> u32
-    ensures { result ≡ min a b }
-{
-    if b < a {
-        return b;
-    }
-    a
-}
-
-// One number or the other, by a test.
-pub fn one_of(test: bool, yes: u32, no: u32) -> u32
-    ensures { result ≡ cond test yes no }
-{
-    if test {
-        return yes;
-    }
-    no
-}
-
 // The greatest standing among n orders that could come to train i; 0 where none could.
+#[tactic(auto, unfolding(crate::specs::Standing::greatest_of))]
 pub fn greatest_outside(
     n: usize,
     i: u8,
@@ -55,28 +35,25 @@ pub fn greatest_outside(
     requires { (n ≤ order_counts.most) × UpTo last_instant n release.now }
     ensures { result ≡ best (at release.now) latest.now train.now i n }
 {
-    let mut best: u32 = 0;
-    let mut j: usize = 0;
-    while j < n {
+    let mut best = 0;
+    for j in 0..n {
         let own = standing_of(release, j);
         let could = (train[j] < i) & (i <= latest[j]);
-        best = larger(best, one_of(could, own, 0));
-        j += 1;
+        best = best.max(if could { own } else { 0 });
     }
     best
 }
 
 // The least standing among n orders that ride train i; BEYOND where none does.
+#[tactic(auto, unfolding(crate::specs::Standing::least_of))]
 pub fn least_on(n: usize, i: u8, release: &[u32; MOST_ORDERS], train: &[u8; MOST_ORDERS]) -> u32
     requires { (n ≤ order_counts.most) × UpTo last_instant n release.now }
     ensures { result ≡ least (at release.now) train.now i n }
 {
     let mut least = BEYOND;
-    let mut j: usize = 0;
-    while j < n {
+    for j in 0..n {
         let own = standing_of(release, j);
-        least = smaller(least, one_of(train[j] == i, own, BEYOND));
-        j += 1;
+        least = least.min(if train[j] == i { own } else { BEYOND });
     }
     least
 }
@@ -97,13 +74,11 @@ pub fn survey(n: usize, release: &[u32; MOST_ORDERS], train: &[u8; MOST_ORDERS])
 {
     let mut riders = [0u8; TRAINS_AND_NONE];
     let mut low = [BEYOND; TRAINS_AND_NONE];
-    let mut j: usize = 0;
-    while j < n {
+    for j in 0..n {
         let own = standing_of(release, j);
         let i = train[j] as usize;
         riders[i] += 1;
-        low[i] = smaller(low[i], own);
-        j += 1;
+        low[i] = low[i].min(own);
     }
     Riders { riders, low }
 }

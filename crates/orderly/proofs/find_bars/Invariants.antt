@@ -1,13 +1,8 @@
--- `orderly::find_bars` meets its contract: the loop's invariant is that the trains above q have their bars. Assumes nothing.
-use mathlib.Core.Path.{◌≡◌}
-use Prim.Native.Nat.{◌≤◌}
-use lib.ListN.{length}
+-- `orderly::find_bars` meets its contract: the loop's invariant is that the trains before i have their bars. Assumes nothing.
+use Rattle.std.proofs.Common.{◌≡◌, length, ◌-◌}
 use Rattle.numbers.specs.Counting.{nth}
-use Rattle.orderly.proofs.BarLaws.{BarredFrom}
+use Rattle.orderly.specs.Bars.{Barred}
 use Rattle.orderly.proofs.find_bars.Given as goal
 
-abbrev pub invariant-loop-q : goal.invariant-loop-q
-invariant-loop-q l = (l.q ≤ l.initial.q) × (length l.bars ≡ 33) × BarredFrom l.initial.q (nth l.capacity) l.riders l.low l.q l.bars
-
-abbrev pub decreases-loop-q : goal.decreases-loop-q
-decreases-loop-q l = l.q
+abbrev pub invariant-loop-i : goal.invariant-loop-i
+invariant-loop-i l = (length l.bars ≡ 33) × Barred (l.i - 1) (nth l.capacity) l.riders l.low l.bars

@@ -1,6 +1,5 @@
 -- `riders::standing::survey` meets its contract: the loop's invariant is that the first j orders are counted and looked at. Assumes nothing.
 use mathlib.Core.Path.{◌≡◌}
-use Prim.Native.Nat.{◌-◌, ◌≤◌}
 use lib.ListN.{length}
 use Rattle.numbers.specs.Counting.{at}
 use Rattle.riders.specs.Standing.{Lowest}
@@ -8,7 +7,4 @@ use Rattle.riders.specs.Riders.{Counted}
 use Rattle.riders.proofs.standing.survey.Given as goal
 
 abbrev pub invariant-loop-j : goal.invariant-loop-j
-invariant-loop-j l = (l.j ≤ l.n) × Counted l.j l.train l.riders × (length l.low ≡ 33) × Lowest l.j (at l.release) l.train l.low
-
-abbrev pub decreases-loop-j : goal.decreases-loop-j
-decreases-loop-j l = l.n - l.j
+invariant-loop-j l = Counted l.j l.train l.riders × (length l.low ≡ 33) × Lowest l.j (at l.release) l.train l.low
