@@ -2,12 +2,13 @@
 #![tactic(auto)]
 
 ghost use Rattle.std.specs.Prelude.{◌≡◌, min};
-ghost use Rattle.model.specs.Memory.{sheet_of, window_sheet, timetable_sheet};
+ghost use Rattle.model.specs.Memory.{sheet_of};
 ghost use Rattle.model.specs.Admission.{Admitted};
 ghost use Rattle.rounds.specs.RoundsBound.{rounds_bound};
 ghost use Rattle.bound.specs.BoundCall.{BoundCall};
 
-use model::{Refusal, Sheet, TimetableSheet, WindowSheet};
+use borders::AnySheet;
+use model::{Refusal, Sheet};
 
 fn smaller(a: usize, b: usize) -> usize
     ensures { result ≡ min a b }
@@ -35,29 +36,11 @@ pub fn figure(sheet: Sheet) -> usize
     most
 }
 
-// The figure of a sheet of either form that passes 4, 5, 2, 6 and 7, else that refusal.
-pub fn bound(sheet: Sheet) -> Result<usize, Refusal>
-    ensures { BoundCall (sheet_of sheet) result }
+// The figure of a sheet that passes 4, 5, 2, 6 and 7, else that refusal.
+pub fn bound<S: AnySheet>(sheet: S) -> Result<usize, Refusal>
+    ensures { BoundCall (S.meant sheet) result }
 {
-    let admission = admission::admit(sheet);
-    if let Err(refusal) = admission {
-        return Err(refusal);
-    }
-    BoundReply::Bounded {
-        most: figure(sheet),
-    }
-}
-
-// Of a sheet of the window form.
-pub fn bound_windows(sheet: WindowSheet) -> Result<usize, Refusal>
-    ensures { BoundCall (window_sheet sheet) result }
-{
-    bound(borders::from_windows(sheet))
-}
-
-// Of a sheet of the timetable form.
-pub fn bound_timetable(sheet: TimetableSheet) -> Result<usize, Refusal>
-    ensures { BoundCall (timetable_sheet sheet) result }
-{
-    bound(borders::from_timetable(sheet))
+    let sheet = sheet.to_sheet();
+    admission::admit(sheet)?;
+    Ok(figure(sheet))
 }

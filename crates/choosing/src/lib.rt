@@ -3,7 +3,7 @@
 #![tactic(auto)]
 
 ghost use Rattle.std.specs.Prelude.{◌≡◌};
-ghost use Rattle.model.specs.Memory.{sheet_of, window_sheet, timetable_sheet};
+ghost use Rattle.model.specs.Memory.{sheet_of};
 ghost use Rattle.model.specs.Admission.{Admitted};
 ghost use Rattle.rounds.specs.SettingOut.{Sets};
 ghost use Rattle.rounds.specs.Answers.{choose_from as chosen_from};
@@ -13,22 +13,25 @@ ghost use Rattle.search.specs.Setting.{outset_of};
 ghost use Rattle.planner.specs.Outcome.{choice_so};
 ghost use Rattle.planner.specs.Choosing.{ChoosingCall};
 
-use model::{PlanPair, Refusal, Sheet, TimetableSheet, WindowSheet};
+use borders::AnySheet;
+use model::{PlanPair, Refusal, Sheet};
 use recording::{put_times, put_trains};
 use search::Outset;
 use search::round::round_from;
 use search::start::{ordinary, start_from};
 
-// Chooses for a sheet of either form: the train of each order, and the departure, the arrival and the window of each train, the window 0 in the timetable
-// form.
-pub fn choose(sheet: Sheet, wish: u32, train_of_order: &mut [u8], times: &mut [u32]) -> Result<PlanPair, Refusal>
-    ensures { ChoosingCall (sheet_of sheet) wish result (areas train_of_order.new times.new)
+// Chooses for a sheet: the train of each order, and the departure, the arrival and the window of each train, the window 0 in the timetable form.
+pub fn choose<S: AnySheet>(
+    sheet: S,
+    wish: u32,
+    train_of_order: &mut [u8],
+    times: &mut [u32],
+) -> Result<PlanPair, Refusal>
+    ensures { ChoosingCall (S.meant sheet) wish result (areas train_of_order.new times.new)
         (areas train_of_order.old times.old) }
 {
-    let tested = room::for_choosing(sheet, train_of_order.len(), times.len());
-    if let Err(refusal) = tested {
-        return Err(refusal);
-    }
+    let sheet = sheet.to_sheet();
+    room::for_choosing(sheet, train_of_order.len(), times.len())?;
     choose_from(sheet, ordinary(sheet), wish, train_of_order, times)
 }
 
@@ -57,10 +60,10 @@ pub fn choose_from(
             let arrival = progress.arrival;
             let window = progress.window;
             put_times(departure, arrival, window, sheet.train_count, times);
-            choice = ChoiceReply::Chosen {
+            choice = Ok(PlanPair {
                 last: progress.last,
                 worst: progress.limit,
-            };
+            });
         }
     }
     told(choice, progress.last <= wish)
@@ -71,36 +74,8 @@ fn told(choice: Result<PlanPair, Refusal>, in_time: bool) -> Result<PlanPair, Re
     ensures { result ≡ choice_so choice in_time }
 {
     if in_time {
-        return choice;
+        choice
+    } else {
+        choice.map_err(|_| Refusal::WishTooEarly)
     }
-    let ChoiceReply::Chosen { .. } = choice else {
-        return Err(Refusal::WishTooEarly);
-    };
-    choice
-}
-
-// Chooses for a sheet of the window form.
-pub fn choose_windows(
-    sheet: WindowSheet,
-    wish: u32,
-    train_of_order: &mut [u8],
-    times: &mut [u32],
-) -> Result<PlanPair, Refusal>
-    ensures { ChoosingCall (window_sheet sheet) wish result (areas train_of_order.new times.new)
-        (areas train_of_order.old times.old) }
-{
-    choose(borders::from_windows(sheet), wish, train_of_order, times)
-}
-
-// Chooses for a sheet of the timetable form.
-pub fn choose_timetable(
-    sheet: TimetableSheet,
-    wish: u32,
-    train_of_order: &mut [u8],
-    times: &mut [u32],
-) -> Result<PlanPair, Refusal>
-    ensures { ChoosingCall (timetable_sheet sheet) wish result (areas train_of_order.new times.new)
-        (areas train_of_order.old times.old) }
-{
-    choose(borders::from_timetable(sheet), wish, train_of_order, times)
 }

@@ -11,7 +11,9 @@ use Rattle.model.specs.Memory.{sheet_of}
 use Rattle.model.specs.Admission.{Admitted}
 use Rattle.model.specs.Gone.{Gone, gone_trains, went, WentWell, went_well}
 use Rattle.model.proofs.GoneTestLaws.{decides_went_well}
-use Rattle.std.specs.Prelude.{Ok, Err}
+use Rattle.std.specs.Prelude.{Result, Ok, Err}
+use Rattle.model.specs.Refusal.{of_reply}
+use Rattle.model.specs.Replies.{Admission}
 use Rattle.model.specs.declared.Refusal.{Refusal}
 use Rattle.model.specs.declared.Refusal.TheVariants.{NoSchedule, GoneWrong}
 use Rattle.model.specs.declared.Row.{Row}
@@ -29,7 +31,6 @@ use Rattle.search.specs.declared.Outset.{Outset}
 use Rattle.gone.specs.GonePart.{gone_part, Behind}
 use Rattle.gone.proofs.BehindLaws.{agree, sets_behind}
 use Rattle.gone.specs.Ready.{gone_tested, CanSetOut, SetOut}
-use Rattle.gone.specs.declared.Ready.{Ready}
 
 -- ---- what the tests say is what the answer is
 
@@ -38,7 +39,7 @@ module _ {A : Type 0} (s : Sheet) (g : Gone) (x : Answer A) where
   unfolding after_gone
   gone_refused f e = go (went_well s g) (outnumbered s g) e
     where
-      go : (b d : Bool) → cond b (cond d (Err NoSchedule) (Ok tt)) (Err GoneWrong) ≡ Err f
+      go : (b d : Bool) → ◌≡◌ {A = Admission} (cond b (cond d (Err NoSchedule) (Ok tt)) (Err GoneWrong)) (Err f)
           → cond b (cond d (refused NoSchedule) x) (refused GoneWrong) ≡ refused f
       go true true u = let z : NoSchedule ≡ f = cc in ap refused z
       go true false u = absurd (let z : ◌≡◌ {A = ℕ} 0 1 = cc in omega arith)
@@ -48,7 +49,7 @@ module _ {A : Type 0} (s : Sheet) (g : Gone) (x : Answer A) where
   unfolding after_gone
   gone_granted e = go (went_well s g) (outnumbered s g) e
     where
-      go : (b d : Bool) → cond b (cond d (Err NoSchedule) (Ok tt)) (Err GoneWrong) ≡ Ok tt
+      go : (b d : Bool) → ◌≡◌ {A = Admission} (cond b (cond d (Err NoSchedule) (Ok tt)) (Err GoneWrong)) (Ok tt)
           → cond b (cond d (refused NoSchedule) x) (refused GoneWrong) ≡ x
       go true true u = absurd (let z : ◌≡◌ {A = ℕ} 0 1 = cc in omega arith)
       go true false u = refl
@@ -56,8 +57,8 @@ module _ {A : Type 0} (s : Sheet) (g : Gone) (x : Answer A) where
 
 -- ---- how the code comes to them
 
-pub none_set : (m : memory.Sheet) (r : Ready) (f : Refusal) → r.admission ≡ Err f → CanSetOut m r
-none_set m r f u v = absurd (let z : ◌≡◌ {A = ℕ} 0 1 = cc in omega arith)
+pub none_set : (m : memory.Sheet) (r : Result Outset Refusal) (f : Refusal) → r ≡ Err f → CanSetOut m r
+none_set m r f u o v = absurd (let z : ◌≡◌ {A = ℕ} 0 1 = cc in omega arith)
 
 module _ (m : memory.Sheet) (a : Admitted (sheet_of m)) (departure : List ℕ) (rows : List Row) (minute : ℕ) (given : Given)
     (is : given ≡ gathered rows (length rows)) where
@@ -67,12 +68,12 @@ module _ (m : memory.Sheet) (a : Admitted (sheet_of m)) (departure : List ℕ) (
   abbrev g : Gone
   g = gone_part departure rows minute
 
-  pub set_wrong : (r : Ready) → false ≡ went_well s g → r.admission ≡ Err GoneWrong → SetOut m g r
+  pub set_wrong : (r : Result Outset Refusal) → false ≡ went_well s g → r ≡ Err GoneWrong → SetOut m g r
   set_wrong r e u =
       record {
-        is = u ∙ ap (λ (b : Bool). cond b (cond (outnumbered s g) (Err NoSchedule) (Ok tt)) (Err GoneWrong)) e;
-        columns = λ v. absurd (let z : ◌≡◌ {A = ℕ} 0 1 = cc in omega arith);
-        sets = λ v. absurd (let z : ◌≡◌ {A = ℕ} 0 1 = cc in omega arith);
+        is = ap of_reply u ∙ ap (λ (b : Bool). cond {A = Admission} b (cond (outnumbered s g) (Err NoSchedule) (Ok tt)) (Err GoneWrong)) e;
+        columns = λ o v. absurd (let z : ◌≡◌ {A = ℕ} 0 1 = cc in omega arith);
+        sets = λ o v. absurd (let z : ◌≡◌ {A = ℕ} 0 1 = cc in omega arith);
       }
 
   module _ (e : true ≡ went_well s g) (column : List ℕ) (departs : take (length departure) column ≡ departure) (c : Outset)
@@ -105,26 +106,25 @@ module _ (m : memory.Sheet) (a : Admitted (sheet_of m)) (departure : List ℕ) (
     decides_room : Decides (m.order_count ≤ places (nth c.capacity) m.train_count) all_fit
     decides_room = decides_le m.order_count (places (nth c.capacity) m.train_count)
 
-    pub set_few : (r : Ready) → all_fit ≡ false → r.admission ≡ Err NoSchedule → SetOut m g r
+    pub set_few : (r : Result Outset Refusal) → all_fit ≡ false → r ≡ Err NoSchedule → SetOut m g r
     set_few r few u =
         let none : outnumbered s g ≡ true = test_true decides_few (outnumber (decided decides_few)) in
         record {
-          is = u ∙ rw (← e, none);
-          columns = λ v. absurd (let z : ◌≡◌ {A = ℕ} 0 1 = cc in omega arith);
-          sets = λ v. absurd (let z : ◌≡◌ {A = ℕ} 0 1 = cc in omega arith);
+          is = ap of_reply u ∙ rw (← e, none);
+          columns = λ o v. absurd (let z : ◌≡◌ {A = ℕ} 0 1 = cc in omega arith);
+          sets = λ o v. absurd (let z : ◌≡◌ {A = ℕ} 0 1 = cc in omega arith);
         }
       where
         outnumber : Few ⊎ (¬ Few) → Few
         outnumber (inl h) = h
         outnumber (inr h) = absurd (test_fails decides_room few (omega (arith, K, enough s g well h)))
 
-    pub set_granted : (r : Ready) → all_fit ≡ true → r.admission ≡ Ok tt → r.outset ≡ c
-        → SetOut m g r
-    set_granted r many u v =
+    pub set_granted : (r : Result Outset Refusal) → all_fit ≡ true → r ≡ Ok c → SetOut m g r
+    set_granted r many u =
         let room : m.order_count ≤ places (behind s g).capacity m.train_count = omega (arith, K, test_means decides_room many) in
         let some : outnumbered s g ≡ false = test_false decides_few (λ h. too_few s g well h room) in
         record {
-          is = u ∙ rw (← e, some);
-          columns = λ w. rw v agrees;
-          sets = λ w. rw v (sets_behind m a departure rows minute column departs well.remains fits c long (rw is at b) well room);
+          is = ap of_reply u ∙ rw (← e, some);
+          columns = λ o w. let same : c ≡ o = cc in rw (← same) agrees;
+          sets = λ o w. let same : c ≡ o = cc in rw (← same) (sets_behind m a departure rows minute column departs well.remains fits c long (rw is at b) well room);
         }

@@ -21,14 +21,6 @@ use foreign::fit::column_of;
 use model::{Refusal, Sheet};
 use places::are_enough;
 use search::Outset;
-use search::start::ordinary;
-
-// Whether a search can be made behind the gone trains, and if so from where.
-#[derive(Clone, Copy)]
-pub struct Ready {
-    pub admission: Result<(), Refusal>,
-    pub outset: Outset,
-}
 
 // Whether the trains have places for n orders.
 fn has_places(outset: Outset, q: usize, n: usize) -> bool
@@ -40,28 +32,24 @@ fn has_places(outset: Outset, q: usize, n: usize) -> bool
 }
 
 // Sets out behind the gone trains: 21 unless they went well, 8 if the orders left outnumber the other trains' places.
-pub fn set_out(sheet: Sheet, departures: &[u32], given: Given, minute: u32) -> Ready
+pub fn set_out(
+    sheet: Sheet,
+    departures: &[u32],
+    given: Given,
+    minute: u32,
+) -> Result<Outset, Refusal>
     requires { Admitted (sheet_of sheet) }
     ensures is { OfRows given (λ rows. SetOut sheet (gone_part departures.now rows minute) result) }
     ensures sets { CanSetOut sheet result }
 {
     if !went_well(sheet, departures, given, minute) {
-        return Ready {
-            admission: Err(Refusal::GoneWrong),
-            outset: ordinary(sheet),
-        };
+        return Err(Refusal::GoneWrong);
     }
     let train = given.train;
     let departure = column_of(departures);
     let outset = behind(sheet, departures.len(), train, departure, minute);
     if !has_places(outset, sheet.train_count, sheet.order_count) {
-        return Ready {
-            admission: Err(Refusal::NoSchedule),
-            outset,
-        };
+        return Err(Refusal::NoSchedule);
     }
-    Ready {
-        admission: Ok(()),
-        outset,
-    }
+    Ok(outset)
 }

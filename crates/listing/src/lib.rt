@@ -2,7 +2,7 @@
 #![tactic(auto)]
 
 ghost use Rattle.std.specs.Prelude.{◌≡◌};
-ghost use Rattle.model.specs.Memory.{sheet_of, window_sheet, timetable_sheet};
+ghost use Rattle.model.specs.Memory.{sheet_of};
 ghost use Rattle.model.specs.Admission.{Admitted};
 ghost use Rattle.rounds.specs.SettingOut.{Sets};
 ghost use Rattle.rounds.specs.Answers.{list_from as listed_from};
@@ -12,20 +12,19 @@ ghost use Rattle.search.specs.Setting.{outset_of};
 ghost use Rattle.planner.specs.Outcome.{listed_so};
 ghost use Rattle.planner.specs.Listing.{ListingCall};
 
-use model::{Listed, Refusal, Sheet, TimetableSheet, WindowSheet};
+use borders::AnySheet;
+use model::{Listed, Refusal, Sheet};
 use recording::list_pair;
 use search::Outset;
 use search::round::round_from;
 use search::start::{ordinary, start_from};
 
-// Lists the pairs of a sheet of either form, two numbers a pair: last arrival, worst weighted lateness.
-pub fn list(sheet: Sheet, pairs: &mut [i64]) -> Result<Listed, Refusal>
-    ensures { ListingCall (sheet_of sheet) result pairs.new pairs.old }
+// Lists the pairs of a sheet, two numbers a pair: last arrival, worst weighted lateness.
+pub fn list<S: AnySheet>(sheet: S, pairs: &mut [i64]) -> Result<Listed, Refusal>
+    ensures { ListingCall (S.meant sheet) result pairs.new pairs.old }
 {
-    let tested = room::for_listing(sheet, pairs.len());
-    if let Err(refusal) = tested {
-        return Err(refusal);
-    }
+    let sheet = sheet.to_sheet();
+    room::for_listing(sheet, pairs.len())?;
     list_from(sheet, ordinary(sheet), pairs)
 }
 
@@ -54,19 +53,5 @@ fn listed(pairs: usize, rounds: usize) -> Result<Listed, Refusal>
     if pairs == 0 {
         return Err(Refusal::NoSchedule);
     }
-    ListReply::Listed { pairs, rounds }
-}
-
-// Lists the pairs of a sheet of the window form.
-pub fn list_windows(sheet: WindowSheet, pairs: &mut [i64]) -> Result<Listed, Refusal>
-    ensures { ListingCall (window_sheet sheet) result pairs.new pairs.old }
-{
-    list(borders::from_windows(sheet), pairs)
-}
-
-// Lists the pairs of a sheet of the timetable form.
-pub fn list_timetable(sheet: TimetableSheet, pairs: &mut [i64]) -> Result<Listed, Refusal>
-    ensures { ListingCall (timetable_sheet sheet) result pairs.new pairs.old }
-{
-    list(borders::from_timetable(sheet), pairs)
+    Ok(Listed { pairs, rounds })
 }

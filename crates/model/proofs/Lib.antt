@@ -1,3 +1,4 @@
+pub mod ReplyLaws
 pub mod SheetLaws
 pub mod ArrivalLaws
 pub mod LatenessLaws

@@ -10,6 +10,7 @@ use Rattle.model.specs.Schedule.{Schedules}
 use Rattle.model.specs.Lateness.{Pair}
 use Rattle.model.specs.Refusal.{of_reply, number_of}
 use Rattle.model.specs.Admission.{Admitted}
+use Rattle.model.proofs.ReplyLaws.{same_listed, same_chosen}
 use Rattle.model.specs.Replies.{ListReply, ChoiceReply, listed_as}
 use Rattle.rounds.specs.Recording.{Plan, Entry}
 use Rattle.rounds.specs.EntryPlan.{EntryPlanAmong, EntryPlan, EntryBooked}
@@ -51,7 +52,8 @@ module _ (s : Sheet) (x : Answer Listing) (found : List ℤ) where
         go (refused f) u v = absurd (let z : ◌≡◌ {A = ℕ} 0 1 = cc in omega arith)
         go (given l) u v =
             let (granted, is) = accepted s (list_room s (length found)) x u in
-            let many : pairs ≡ length l.pairs = cc in
+            let (many, made) =
+                same_listed (record { pairs = pairs; rounds = rounds }) (record { pairs = length l.pairs; rounds = l.rounds }) (sym e ∙ v) in
             let written = over (pair_numbers l.pairs) found in
             let here : left ≡ written = told.areas_left ∙ ap (λ (y : Answer Listing). list_left y found) u in
             record {
@@ -59,7 +61,7 @@ module _ (s : Sheet) (x : Answer Listing) (found : List ℤ) where
               admitted = (passed s (list_room s (length found)) granted).0;
               is = is;
               many = many;
-              made = cc;
+              made = made;
               read = ap (pairs_in pairs) here ∙ ap (λ (k : ℕ). pairs_in k written) many ∙ pairs_read l.pairs found;
             }
 
@@ -97,8 +99,8 @@ module _ (s : Sheet) (x : Answer Entry) (found : PlanAreas) where
         go : (y : Answer Entry) → ChosenTo ≡ y → r ≡ choice_reply y → Chooses s x left p
         go (refused f) u v = absurd (let z : ◌≡◌ {A = ℕ} 0 1 = cc in omega arith)
         go (given e) u v =
-            let last : e.pair.last ≡ p.last = cc in
-            let worst : e.pair.worst ≡ p.worst = cc in
+            let (last, worst) =
+                same_chosen (record { last = e.pair.last; worst = e.pair.worst }) (record { last = p.last; worst = p.worst }) (sym v ∙ g) in
             let (granted, is) = accepted s (plan_room s (length found.trains) (length found.times)) x u in
             let a = (passed s (plan_room s (length found.trains) (length found.times)) granted).0 in
             let here : left ≡ plan_left s (given e) found = told.areas_left ∙ ap (λ (y : Answer Entry). plan_left s y found) u in

@@ -35,7 +35,7 @@ pub passed : (s : Sheet) (room : Bool) → tested s room ≡ Ok tt → Admitted 
 unfolding tested after_admission
 passed s room e = go (admission s) refl e
   where
-    long : (b : Bool) → cond b (Ok tt) (Err AreaTooShort) ≡ Ok tt → b ≡ true
+    long : (b : Bool) → ◌≡◌ {A = Admission} (cond b (Ok tt) (Err AreaTooShort)) (Ok tt) → b ≡ true
     long true u = refl
     long false u = absurd (let z : ◌≡◌ {A = ℕ} 0 1 = cc in omega arith)
 

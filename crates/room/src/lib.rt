@@ -6,7 +6,6 @@ ghost use Rattle.std.specs.Prelude.{◌≡◌, ◌&&◌, cond, ◌*◌, ◌≤�
 ghost use Rattle.model.specs.Limits.{train_counts, numbers_a_train};
 ghost use Rattle.model.specs.Memory.{sheet_of};
 ghost use Rattle.model.specs.Admission.{Admitted};
-ghost use Rattle.model.specs.declared.Admission.TheVariants as outcome;
 ghost use Rattle.model.specs.declared.Refusal.TheVariants as cause;
 ghost use Rattle.rounds.specs.Areas.{list_room, plan_room, tested};
 ghost use Rattle.rounds.specs.ByRound.{search_room};
@@ -32,22 +31,20 @@ fn holds_plan(n: usize, q: usize, trains: usize, times: usize) -> bool
 
 // Test 10, where the areas have room or not.
 fn with_room(room: bool) -> Result<(), Refusal>
-    ensures { result ≡ cond room outcome.Granted (outcome.Refused cause.AreaTooShort) }
+    ensures { result ≡ cond room (Ok tt) (Err cause.AreaTooShort) }
 {
     if room {
-        return Ok(());
+        Ok(())
+    } else {
+        Err(Refusal::AreaTooShort)
     }
-    Err(Refusal::AreaTooShort)
 }
 
 // For listing and checking, which fill the pairs area.
 pub fn for_listing(sheet: Sheet, pairs: usize) -> Result<(), Refusal>
     ensures { result ≡ tested (sheet_of sheet) (list_room (sheet_of sheet) pairs) }
 {
-    let admission = admission::admit(sheet);
-    let Ok(()) = admission else {
-        return admission;
-    };
+    admission::admit(sheet)?;
     with_room(holds_pairs(sheet, pairs))
 }
 
@@ -55,10 +52,7 @@ pub fn for_listing(sheet: Sheet, pairs: usize) -> Result<(), Refusal>
 pub fn for_choosing(sheet: Sheet, trains: usize, times: usize) -> Result<(), Refusal>
     ensures { result ≡ tested (sheet_of sheet) (plan_room (sheet_of sheet) trains times) }
 {
-    let admission = admission::admit(sheet);
-    let Ok(()) = admission else {
-        return admission;
-    };
+    admission::admit(sheet)?;
     with_room(holds_plan(sheet.order_count, sheet.train_count, trains, times))
 }
 
@@ -66,10 +60,7 @@ pub fn for_choosing(sheet: Sheet, trains: usize, times: usize) -> Result<(), Ref
 pub fn for_search(sheet: Sheet, pairs: usize, trains: usize, times: usize) -> Result<(), Refusal>
     ensures { result ≡ tested (sheet_of sheet) (search_room (sheet_of sheet) pairs trains times) }
 {
-    let admission = admission::admit(sheet);
-    let Ok(()) = admission else {
-        return admission;
-    };
+    admission::admit(sheet)?;
     with_room(
         holds_pairs(sheet, pairs) & holds_plan(sheet.order_count, sheet.train_count, trains, times),
     )
