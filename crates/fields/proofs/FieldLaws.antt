@@ -5,10 +5,9 @@ use Rattle.std.proofs.Math.Bool.{true, false, cond}
 use mathlib.Core.List.{List, [], ◌∷◌}
 use Prim.Native.Nat.{ℕ, zero, suc, ◌+◌, ◌≤◌, ◌<◌, ◌^◌}
 use native.Mathlib.Omega.{arith}
-use Rattle.std.proofs.Math.Numerals.{add-one}
 use Rattle.std.proofs.Math.Nat.{pow-le-pow_right, pow-suc}
 use Rattle.std.proofs.Math.ListN.{length, get_or-eq_default}
-use Rattle.std.proofs.Common.{length-drop, drop_of_length-le, drop-cons, get_or-drop, leb-true}
+use Rattle.std.proofs.Common.{length-drop, get_or-drop, leb-true}
 use Rattle.numbers.specs.Counting.{at}
 use Rattle.numbers.specs.DecidesLaws.{and_true}
 use Rattle.model.specs.Limits.{Range, Inside, inside, ◌–◌}
@@ -24,25 +23,12 @@ inside_text (x ∷ text) zero b e = omega arith
 inside_text (x ∷ text) (suc p) b e = omega (arith, inside_text text p b e)
 
 module _ (a : Alphabet) where
-  pub run_next : (text : List ℕ) (p : ℕ) → p < length text → allowed_in a (at text p) ≡ true
-      → run_of a (drop p text) ≡ suc (run_of a (drop (p + 1) text))
-  unfolding run_of
-  run_next text p l e = rw (drop-cons text p 0 l, add-one, e)
-
-  pub run_stop : (text : List ℕ) (p : ℕ) → p < length text → allowed_in a (at text p) ≡ false → run_of a (drop p text) ≡ 0
-  unfolding run_of
-  run_stop text p l e = rw (drop-cons text p 0 l, e)
-
-  pub run_past : (text : List ℕ) (p : ℕ) → length text ≤ p → run_of a (drop p text) ≡ 0
-  unfolding run_of
-  run_past text p l = rw (drop_of_length-le text l)
-
   pub run_length : (l : List ℕ) → run_of a l ≤ length l
   unfolding run_of
   run_length [] = omega arith
   run_length (b ∷ rest) = go (allowed_in a b) (run_length rest)
     where
-      go : (t : Bool) → run_of a rest ≤ length rest → cond t (suc (run_of a rest)) 0 ≤ suc (length rest)
+      go : (t : Bool) → run_of a rest ≤ length rest → cond t (1 + run_of a rest) 0 ≤ suc (length rest)
       go true h = omega arith
       go false h = omega arith
 
@@ -57,7 +43,7 @@ module _ (a : Alphabet) where
   run_allowed (b ∷ rest) i h = go (run_allowed rest) (allowed_in a b) refl i h
     where
       go : ((i : ℕ) → i < run_of a rest → allowed_in a (at rest i) ≡ true) → (t : Bool) → allowed_in a b ≡ t → (i : ℕ)
-          → i < cond t (suc (run_of a rest)) 0 → allowed_in a (at (b ∷ rest) i) ≡ true
+          → i < cond t (1 + run_of a rest) 0 → allowed_in a (at (b ∷ rest) i) ≡ true
       go ih true e zero k = e
       go ih true e (suc i) k = ih i (omega arith)
       go ih false e i k = absurd (omega arith)
@@ -88,6 +74,9 @@ module _ (text : List ℕ) (p : ℕ) where
   -- so a digit more after at most five of them still fits
   pub decimal_fits : (n : ℕ) → n < 6 → n < run_of Digits (drop p text) → decimal_of text p n < 100000
   decimal_fits n l h = omega (arith, decimal_below n (omega arith), pow-le-pow_right {n = 10} (omega arith) {i = n} {j = 5} (omega arith))
+
+-- what a few digits that stand in a text are
+pub ruleset digit_laws = (run_inside, digit_at, decimal_fits)
 
 -- a digit is of both alphabets
 pub ten_digits : (a : Alphabet) (b : ℕ) → inside (48 – 57) b ≡ true → allowed_in a b ≡ true

@@ -1,6 +1,7 @@
 -- DOCUMENT 01, "THE SHEET": "Fields stand in a fixed order, parted by commas, no quoting."
 -- A text is the list of its bytes. A position in it counts from 0; past the end stands 0, which no rule below allows.
-use Rattle.std.specs.Prelude.{Bool, ◌||◌, cond, List, [], ◌∷◌, ℕ, suc, eqb}
+use Rattle.std.specs.Prelude.{Bool, ◌||◌, List, ℕ, eqb}
+use Rattle.std.specs.List.{prefix_len}
 use Rattle.numbers.specs.Counting.{at}
 use Rattle.model.specs.Limits.{inside, ◌–◌}
 use Rattle.fields.specs.declared.Alphabet.{Alphabet}
@@ -17,5 +18,4 @@ allowed_in NameBytes b = inside (48 – 57) b || eqb b 45 || inside (65 – 90) 
 
 -- how many bytes at the front of a list are of an alphabet: the field ends there
 unfoldable pub run_of : Alphabet → List ℕ → ℕ
-run_of a [] = 0
-run_of a (b ∷ rest) = cond (allowed_in a b) (suc (run_of a rest)) 0
+run_of a text = prefix_len (allowed_in a) text

@@ -14,23 +14,16 @@ pub enum Alphabet {
     NameBytes,
 }
 
-// A number field: its value and the position after it.
+// A number that was read, and the position after it.
 #[derive(Clone, Copy)]
-pub enum Field {
-    Number(u32, usize),
-    Other,
-}
-
-// A name field: where the name starts and how long it is.
-#[derive(Clone, Copy)]
-pub enum NameField {
-    Name(usize, usize),
-    Other,
+pub struct NumberAt {
+    pub value: u32,
+    pub next: usize,
 }
 
 // Where a name starts in the text, and how many bytes it has.
 #[repr(C)]
-#[derive(Clone, Copy)]
+#[derive(Clone, Copy, Default)]
 pub struct NamePlace {
     pub start: usize,
     pub length: usize,

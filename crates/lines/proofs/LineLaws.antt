@@ -1,12 +1,15 @@
 -- A line that is read ends after it starts, and an order's name lies in the text; one that is not is refused with its number. Assumes nothing.
 use Rattle.std.proofs.Math.Path.{◌≡◌}
-use Rattle.std.specs.Prelude.{refl, ◌||◌, List, ◌⊎◌, length, drop, set, replicate, eqb}
-use Rattle.std.proofs.Common.{subst, inl, inr}
+use Rattle.std.specs.Prelude.{refl, ◌||◌, List, Option, Some, None, Result, Ok, Err, ◌⊎◌, length, drop, set, replicate, eqb}
+use Rattle.std.proofs.Common.{◌++◌, subst, inl, inr}
+use Rattle.std.proofs.lemmas.List.{set-append_left}
+use Rattle.std.proofs.lemmas.Bool.Decides.{nat_tests}
 use Rattle.std.proofs.Math.Bool.{true, false}
 use Prim.Native.Nat.{ℕ, zero, suc, ◌+◌, ◌≤◌, ◌<◌}
 use native.Mathlib.Omega.{arith}
 use Rattle.numbers.specs.Counting.{at}
 use Rattle.model.specs.Limits.{inside, ◌–◌}
+use Rattle.model.specs.declared.Refusal.{Refusal}
 use Rattle.model.specs.declared.Refusal.TheVariants.{Malformed}
 use Rattle.fields.specs.Fields.{comma, run_of}
 use Rattle.fields.specs.Numbers.{is_number, number_at, number_field}
@@ -14,20 +17,17 @@ use Rattle.fields.specs.Names.{name_field, NameAt}
 use Rattle.lines.specs.Lines.{number, name, line_ends, is, number_count, record_of, numbers_from, number_fields, line_at}
 use Rattle.fields.proofs.FieldLaws.{by_test, run_inside, inside_means}
 use Rattle.fields.specs.declared.Alphabet.TheVariants.{Digits, NameBytes}
-use Rattle.fields.specs.declared.Field.{Field}
-use Rattle.fields.specs.declared.Field.TheVariants as F
-use Rattle.fields.specs.declared.NameField.{NameField}
-use Rattle.fields.specs.declared.NameField.TheVariants as N
+use Rattle.fields.specs.declared.NumberAt.{NumberAt}
+use Rattle.fields.specs.declared.NamePlace.{NamePlace}
 use Rattle.lines.specs.declared.Line.{Line}
 use Rattle.lines.specs.declared.Line.TheVariants.{Gap, Window, Train, FixedTrain, Order}
 use Rattle.lines.specs.declared.LineAt.{LineAt}
-use Rattle.lines.specs.declared.LineAt.TheVariants.{Read, Refused}
 
 -- ---- fields
 
-abbrev Past : ℕ → Field → Type 0
-Past p (F.Number value next) = p < next
-Past p F.Other = Unit {0}
+abbrev Past : ℕ → Option NumberAt → Type 0
+Past p (Some n) = p < n.next
+Past p None = Unit {0}
 
 number_past : (text : List ℕ) (p : ℕ) → Past p (number_field text p)
 unfolding number_field number_at
@@ -36,9 +36,9 @@ number_past text p =
     (λ e. by_test (Past p) (is_number text (p + 1) (run_of Digits (drop (p + 1) text))) (λ f. omega arith) (λ f. tt))
     (λ e. tt)
 
-abbrev NameInside : List ℕ → ℕ → NameField → Type 0
-NameInside text p (N.Name start long) = (p < start) × NameAt text start long
-NameInside text p N.Other = Unit {0}
+abbrev NameInside : List ℕ → ℕ → Option NamePlace → Type 0
+NameInside text p (Some n) = (p < n.start) × NameAt text n.start n.length
+NameInside text p None = Unit {0}
 
 name_inside : (text : List ℕ) (p : ℕ) → NameInside text p (name_field text p)
 unfolding name_field
@@ -51,8 +51,8 @@ name_inside text p =
     (λ e. tt)
 
 -- a name that was read lies in the text
-pub name_found : (text : List ℕ) (p start long : ℕ) → name_field text p ≡ N.Name start long → start + long ≤ length text
-name_found text p start long e = (subst (NameInside text p) e (name_inside text p)).1.lies
+pub name_found : (text : List ℕ) (p : ℕ) (n : NamePlace) → name_field text p ≡ Some n → n.start + n.length ≤ length text
+name_found text p n e = (subst (NameInside text p) e (name_inside text p)).1.lies
 
 -- ---- lines
 
@@ -64,9 +64,9 @@ Named text (FixedTrain t) = Unit {0}
 Named text (Order o) = NameAt text o.name_start o.name_length
 
 -- what is read at position p on line number `line`; a line that is not read is refused with 1 and its number
-abbrev pub Sound : List ℕ → (p line : ℕ) → LineAt → Type 0
-Sound text p line (Read l next) = (p < next) × Named text l
-Sound text p line (Refused r) = r ≡ Malformed line
+abbrev pub Sound : List ℕ → (p line : ℕ) → Result LineAt Refusal → Type 0
+Sound text p line (Ok l) = (p < l.next) × Named text l.line
+Sound text p line (Err r) = r ≡ Malformed line
 
 -- no line has more than three numbers
 pub few_numbers : (letter : ℕ) → number_count letter ≤ 3
@@ -75,6 +75,16 @@ few_numbers letter =
     by_test (λ n. n ≤ 3) (is letter "G") (λ e. omega arith) (λ e.
     by_test (λ n. n ≤ 3) (is letter "W" || is letter "T") (λ e. omega arith) (λ e.
     by_test (λ n. n ≤ 3) (is letter "X" || is letter "O") (λ e. omega arith) (λ e. omega arith)))
+
+-- whether a letter has numbers, and how many at most
+pub ruleset count_laws = (nat_tests, few_numbers)
+
+-- a number that was read is written to its place among the values, and the fields that are left stand behind it
+pub one_number : (text : List ℕ) (line : ℕ) (made : List ℕ → Line) (left n p : ℕ) (values rest : List ℕ) (f : NumberAt)
+    → number_field text p ≡ Some f → n < length values
+    → numbers_from text line made (suc left) n p (values ++ rest) ≡ numbers_from text line made left (n + 1) f.next (set values n f.value ++ rest)
+unfolding numbers_from
+one_number text line made left n p values rest f e l = rw (e, set-append_left values rest n f.value l)
 
 module _ (text : List ℕ) (p line : ℕ) where
   -- number fields that stand at or after p
@@ -86,13 +96,13 @@ module _ (text : List ℕ) (p line : ℕ) where
   numbers_sound made named (suc left) n q l values =
       go (number_field text q) (number_past text q) (λ value next m. numbers_sound made named left (n + 1) next m (set values n value))
     where
-      rest : ℕ → ℕ → LineAt
+      rest : ℕ → ℕ → Result LineAt Refusal
       rest value next = numbers_from text line made left (n + 1) next (set values n value)
 
-      go : (x : Field) → Past q x → ((value next : ℕ) → p ≤ next → Sound text p line (rest value next))
-          → Sound text p line (number x (Refused (Malformed line)) rest)
-      go (F.Number value next) h more = more value next (omega arith)
-      go F.Other h more = refl
+      go : (x : Option NumberAt) → Past q x → ((value next : ℕ) → p ≤ next → Sound text p line (rest value next))
+          → Sound text p line (number x (Err (Malformed line)) rest)
+      go (Some n) h more = more n.value n.next (omega arith)
+      go None h more = refl
 
   -- the record of a letter that some kind has: an order's name lies in the text, and no other record has a name
   record_named : (letter start long : ℕ) (values : List ℕ) → NameAt text start long ⊎ (is letter "O" ≡ false)
@@ -126,6 +136,6 @@ line_sound text p line =
     by_test (Sound text p line) (is (at text p) "O") (λ e. go (name_field text (p + 1)) (name_inside text (p + 1)))
     (λ e. fields_sound text p line (at text p) (p + 1) 0 (omega arith) (inr e))
   where
-    go : (x : NameField) → NameInside text (p + 1) x → Sound text p line (name x (Refused (Malformed line)) (number_fields text line (at text p)))
-    go (N.Name start long) h = fields_sound text p line (at text p) start long (omega arith) (inl h.1)
-    go N.Other h = refl
+    go : (x : Option NamePlace) → NameInside text (p + 1) x → Sound text p line (name x (Err (Malformed line)) (number_fields text line (at text p)))
+    go (Some n) h = fields_sound text p line (at text p) n.start n.length (omega arith) (inl h.1)
+    go None h = refl

@@ -1,16 +1,15 @@
 // The kinds of lines by their letters, and the fields that a line ends with.
 ghost use Rattle.std.specs.Prelude.{◌≡◌, ◌+◌, ◌≤◌, length};
 ghost use Rattle.lines.specs.Lines.{number_count, record_of, number_fields};
-ghost use Rattle.lines.specs.declared.LineAt.TheVariants.{Read, Refused};
-ghost use Rattle.model.specs.declared.Refusal.TheVariants.{Malformed};
 
 use crate::{FixedTrain, Gap, Line, LineAt, Order, Train, Window};
-use fields::Field;
+use fields::NamePlace;
 use fields::bytes::byte_at;
 use fields::number::number_field;
 use model::Refusal;
 
 // How many numbers a line with this letter has; 0 if no kind of line has it.
+#[tactic(auto, using(std::proofs::lemmas::Bool::Decides::nat_tests), unfolding(crate::specs::Lines::number_count))]
 fn number_count(letter: u8) -> usize
     ensures { result ≡ number_count letter }
 {
@@ -23,12 +22,11 @@ fn number_count(letter: u8) -> usize
 }
 
 // The record of a line with this letter: its numbers in their order, and of an order its name by its place.
-fn record_of(letter: u8, start: usize, long: usize, values: [u32; 3]) -> Line
-    ensures { result ≡ record_of letter start long values }
+#[tactic(auto, using(std::proofs::lemmas::Bool::Decides::nat_tests), unfolding(crate::specs::Lines::record_of))]
+fn record_of(letter: u8, name: NamePlace, values: [u32; 3]) -> Line
+    ensures { result ≡ record_of letter name.start name.length values }
 {
-    let first = values[0];
-    let second = values[1];
-    let third = values[2];
+    let [first, second, third] = values;
     match letter {
         b'G' => Line::Gap(Gap { gap: first }),
         b'W' => Line::Window(Window {
@@ -45,8 +43,8 @@ fn record_of(letter: u8, start: usize, long: usize, values: [u32; 3]) -> Line
             arrival: third,
         }),
         _ => Line::Order(Order {
-            name_start: start,
-            name_length: long,
+            name_start: name.start,
+            name_length: name.length,
             release: first,
             due: second,
             weight: third,
@@ -54,42 +52,34 @@ fn record_of(letter: u8, start: usize, long: usize, values: [u32; 3]) -> Line
     }
 }
 
-// A line that is read: its record and the position after it.
-fn line_of(letter: u8, start: usize, long: usize, values: [u32; 3], next: usize) -> LineAt
-    ensures { result ≡ Read (record_of letter start long values) next }
-{
-    LineAt::Read(record_of(letter, start, long, values), next)
-}
-
-// Refusal 1 of a line.
-pub fn malformed(line: usize) -> LineAt
-    ensures { result ≡ Refused (Malformed line) }
-{
-    LineAt::Refused(Refusal::Malformed(line))
-}
-
 // The line with this letter whose number fields stand behind this name; only an order's name has bytes.
-pub fn number_fields(text: &[u8], line: usize, letter: u8, start: usize, long: usize) -> LineAt
-    requires { start + long ≤ length text.now }
-    ensures { result ≡ number_fields text.now line letter start long }
+#[tactic(auto, using(crate::proofs::LineLaws::count_laws), unfolding(crate::specs::Lines::number_fields, crate::specs::Lines::numbers_from))]
+pub fn number_fields(
+    text: &[u8],
+    line: usize,
+    letter: u8,
+    name: NamePlace,
+) -> Result<LineAt, Refusal>
+    requires { name.start + name.length ≤ length text.now }
+    ensures { result ≡ number_fields text.now line letter name.start name.length }
 {
+    let malformed = Refusal::Malformed(line);
     let count = number_count(letter);
     if count == 0 {
-        return malformed(line);
+        return Err(malformed);
     }
-    let mut values: [u32; 3] = [0; 3];
-    let mut end = start + long;
-    let mut n: usize = 0;
-    while n < count {
-        let Field::Number(value, next) = number_field(text, end) else {
-            return malformed(line);
-        };
-        values[n] = value;
-        end = next;
-        n += 1;
+    let mut values = [0; 3];
+    let mut end = name.start + name.length;
+    for value in &mut values[..count] {
+        let field = number_field(text, end).ok_or(malformed)?;
+        *value = field.value;
+        end = field.next;
     }
-    if byte_at(text, end) == 10 {
-        return line_of(letter, start, long, values, end + 1);
+    if byte_at(text, end) != b'\n' {
+        return Err(malformed);
     }
-    malformed(line)
+    Ok(LineAt {
+        line: record_of(letter, name, values),
+        next: end + 1,
+    })
 }

@@ -6,9 +6,9 @@ mod kinds;
 ghost use Rattle.std.specs.Prelude.{◌≡◌, ◌<◌, length};
 ghost use Rattle.lines.specs.Lines.{line_at};
 
-use fields::NameField;
+use fields::NamePlace;
 use fields::name::name_field;
-use kinds::{malformed, number_fields};
+use kinds::number_fields;
 use model::Refusal;
 
 // The record of a line `G,gap`.
@@ -58,25 +58,27 @@ pub enum Line {
     Order(Order),
 }
 
-// A line at a position: its record and the position after it, or refusal 1.
+// A line that was read: its record and the position after it.
 #[derive(Clone, Copy)]
-pub enum LineAt {
-    Read(Line, usize),
-    Refused(Refusal),
+pub struct LineAt {
+    pub line: Line,
+    pub next: usize,
 }
 
-// The line that starts at a position of the text.
-pub fn line_at(text: &[u8], p: usize, line: usize) -> LineAt
+// The line that starts at a position of the text, or refusal 1.
+#[tactic(auto, using(std::proofs::lemmas::Bool::Decides::nat_tests, crate::proofs::LineLaws::name_found), unfolding(crate::specs::Lines::line_at))]
+pub fn line_at(text: &[u8], p: usize, line: usize) -> Result<LineAt, Refusal>
     requires { p < length text.now }
     ensures { result ≡ line_at text.now p line }
 {
     let letter = text[p];
-    let fields = p + 1;
-    if letter == b'O' {
-        let NameField::Name(start, length) = name_field(text, fields) else {
-            return malformed(line);
-        };
-        return number_fields(text, line, letter, start, length);
-    }
-    number_fields(text, line, letter, fields, 0)
+    let name = if letter == b'O' {
+        name_field(text, p + 1).ok_or(Refusal::Malformed(line))?
+    } else {
+        NamePlace {
+            start: p + 1,
+            length: 0,
+        }
+    };
+    number_fields(text, line, letter, name)
 }
