@@ -15,7 +15,7 @@ ghost use Rattle.loading.specs.Stage.{Stage, Unmoved, Waiting};
 use columns::of_train;
 use model::limits::{MOST_ORDERS, MOST_TRAINS};
 use riders::moving::{TRAINS_AND_NONE, last_waited_for, leave_late, move_order};
-use riders::standing::{greatest_outside, least_on, survey};
+use riders::standing::{Riders, greatest_outside, least_on, survey};
 
 // The place of the order with this standing.
 fn place_of(standing: u32) -> usize
@@ -111,15 +111,12 @@ pub fn load(
     requires { ToLoad n q release.now capacity latest.now train }
     ensures { take n result ≡ loading_of n q (at release.now) capacity latest.now }
 {
-    let found = survey(n, release, &train);
-    let held = found.riders;
-    let low = found.low;
+    let Riders { riders: held, low } = survey(n, release, &train);
     let mut riders = held;
     leave_late(n, latest, &mut train, &mut riders);
     let mut top = last_waited_for(n, latest, &train);
     let mut challenger = greatest_outside(n, 1, release, latest, &train);
-    let mut i = q;
-    while i > 0 {
+    for i in (1..=q).rev() {
         let m = i as u8;
         let places = capacity[i - 1] as u8;
         let waiting = riders[0];
@@ -140,7 +137,6 @@ pub fn load(
                 challenger = greatest_outside(n, 1, release, latest, &train);
             }
         }
-        i -= 1;
     }
     train
 }

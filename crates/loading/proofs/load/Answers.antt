@@ -19,10 +19,9 @@ module _ {n q : ℕ} {release capacity latest train₀ : List ℕ} (p : ToLoad n
   -- where it has had its turns
   turned : (after riders' : List ℕ) (t c : ℕ) → Stage n (at release) (nth capacity) latest (i - 1) after → Unmoved n i train after → Counted n after riders'
       → ((j : ℕ) → j < n → at after j ≡ 0 → 1 ≤ at latest j → (at latest j ≤ t) × (standing (at release) j ≤ c))
-      → (i - 1 ≤ q) × Counted n after riders' × Stage n (at release) (nth capacity) latest (i - 1) after
+      → Counted n after riders' × Stage n (at release) (nth capacity) latest (i - 1) after
       × Known n (at release) (nth capacity) latest held low t c (i - 1) after
   turned after riders' t c settled unmoved counts waits = (
-    omega arith,
     counts,
     settled,
     known_next n (at release) (nth capacity) latest held low top challenger i train after t c unmoved known waits (i - 1) (omega arith),
@@ -30,10 +29,9 @@ module _ {n q : ℕ} {release capacity latest train₀ : List ℕ} (p : ToLoad n
 
   -- where it needs none
   passed : needed (at riders 0) (at riders i) (nth capacity i) (at held i) (at low i) top challenger i ≡ false
-      → (i - 1 ≤ q) × Counted n train riders × Stage n (at release) (nth capacity) latest (i - 1) train
+      → Counted n train riders × Stage n (at release) (nth capacity) latest (i - 1) train
       × Known n (at release) (nth capacity) latest held low top challenger (i - 1) train
   passed idle = (
-    omega arith,
     counted,
     stage_done n (at release) (nth capacity) latest i pi train stage
         (skip_settled n (at release) (nth capacity) latest held low top challenger p.few_orders i pi (omega (arith, p.few_trains)) train
@@ -47,11 +45,10 @@ loop-i-init c =
     let p = c.requires in
     let a = c.args in
     let k = c.leave_late.ensures.leaves in (
-      omega arith,
       c.leave_late.ensures.counts,
       begins a.n a.q (at a.release.now) (nth a.capacity) a.latest.now a.train _ p.begins k p.few_trains p.may_ride,
       known_first a.n a.q (at a.release.now) (nth a.capacity) a.latest.now a.train _ p.begins k p.few_trains p.may_ride
-          c.survey-found.result.riders c.survey-found.result.low _ _ c.survey-found.ensures.counts c.survey-found.ensures.lows
+          c.survey.result.riders c.survey.result.low _ _ c.survey.ensures.counts c.survey.ensures.lows
           (waits_found a.n (at a.release.now) a.latest.now c.leave_late.new.train _ _ c.last_waited_for-top.ensures
           c.greatest_outside-challenger.ensures),
     )
@@ -59,24 +56,23 @@ loop-i-init c =
 pub loop-i-preserved : goal.loop-i-preserved
 loop-i-preserved c =
     let a = c.args in
-    let pi : 1 ≤ c.loop-i.i = omega arith in
     let v = c.loop-i.invariant in
     elim c.if-needs_turn.branch [
       | then-needs_turn+then-riders-gt0 w ↦
           rw (w.train-is, w.riders-is, w.top-is, w.challenger-is)
-          (turned c.requires c.survey-found.result.riders c.survey-found.result.low v.0 pi v.1 v.2 v.3 _ _ _ _ w.settle_train.ensures.settles
+          (turned c.requires c.survey.result.riders c.survey.result.low (omega arith) (omega arith) v.0 v.1 v.2 _ _ _ _ w.settle_train.ensures.settles
           w.settle_train.ensures.keeps w.settle_train.ensures.counts
           (waits_found a.n (at a.release.now) a.latest.now w.settle_train.new.train _ _ w.last_waited_for-top-then-riders-gt0.ensures
           w.greatest_outside-challenger-then-riders-gt0.ensures))
       | then-needs_turn+else-riders-gt0 w ↦
           rw (w.train-is, w.riders-is, w.top-is, w.challenger-is)
-          (turned c.requires c.survey-found.result.riders c.survey-found.result.low v.0 pi v.1 v.2 v.3 _ _ _ _ w.settle_train.ensures.settles
+          (turned c.requires c.survey.result.riders c.survey.result.low (omega arith) (omega arith) v.0 v.1 v.2 _ _ _ _ w.settle_train.ensures.settles
           w.settle_train.ensures.keeps w.settle_train.ensures.counts
           (nobody_waits a.n (at a.release.now) a.latest.now w.settle_train.new.train w.settle_train.new.riders w.settle_train.ensures.counts
           (omega (arith, w.if-riders-gt0.false))))
       | else-needs_turn w ↦
           rw (w.train-is, w.riders-is, w.top-is, w.challenger-is)
-          (passed c.requires c.survey-found.result.riders c.survey-found.result.low v.0 pi v.1 v.2 v.3
+          (passed c.requires c.survey.result.riders c.survey.result.low (omega arith) (omega arith) v.0 v.1 v.2
           (rw c.needs_turn.ensures at w.if-needs_turn.false))
     ]
 
@@ -85,5 +81,5 @@ returns c =
     let p = c.requires in
     let a = c.args in
     let e : c.loop-i.i ≡ 0 = omega arith in
-    stage_loads a.n a.q (at a.release.now) a.capacity a.latest.now c.loop-i.train (omega (arith, c.loop-i.invariant.1.places, p.few_orders))
-    p.few_trains p.may_ride (rw e at c.loop-i.invariant.2)
+    stage_loads a.n a.q (at a.release.now) a.capacity a.latest.now c.loop-i.train (omega (arith, c.loop-i.invariant.0.places, p.few_orders))
+    p.few_trains p.may_ride (rw e at c.loop-i.invariant.1)
