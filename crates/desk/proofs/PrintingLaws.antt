@@ -1,8 +1,7 @@
 -- Laws of what is printed of a text: each call's part in it, and that all of it is. Assumes nothing.
 use Rattle.std.proofs.Math.Path.{◌≡◌}
-use Rattle.std.specs.Prelude.{refl, Bool, true, false, cond, List, [], ◌∷◌, ℕ, ◌*◌, ◌≤◌, leb, eqb, ℤ, length, take, drop}
+use Rattle.std.specs.Prelude.{refl, true, cond, Option, Some, None, List, ℕ, ◌*◌, ◌≤◌, leb, ℤ, length, take, drop}
 use Rattle.std.proofs.Common.{sym, ap, subst, ◌∙◌, arith, length-append, length-drop, le-leb}
-use Rattle.numbers.specs.Counting.{at}
 use Rattle.numbers.specs.Over.{over}
 use Rattle.model.specs.Sheet.{Sheet}
 use Rattle.model.specs.Memory.{sheet_of}
@@ -21,8 +20,6 @@ use Rattle.planner.specs.InAreas.{pairs_in}
 use Rattle.planner.specs.Listing.{ListingCall}
 use Rattle.planner.specs.Choosing.{ChoosingCall}
 use Rattle.writing.specs.Writing.{Prints}
-use Rattle.writing.specs.declared.Printed.{Printed}
-use Rattle.writing.specs.declared.Printed.TheVariants.{Bytes, TooShort}
 use Rattle.layout.specs.Lines.{refusal_line}
 use Rattle.printer.specs.PlanBytes.{plan_bytes}
 use Rattle.desk.specs.Printing.{form_of, PlanBytes, ListBytes, SheetBytes, ReadBytes, TextBytes, TextPrinted, Put}
@@ -33,19 +30,9 @@ use Rattle.desk.proofs.ListedLaws.{has_listed, last_answered}
 
 -- ---- what each call shows
 
--- the form by the test of the first byte
-pub by_first_byte : (text : List ℕ) (x : Bool) → eqb (at text 0) 88 ≡ x → cond x Timetable Windows ≡ form_of text
-unfolding form_of
-by_first_byte text x e = ap (λ (t : Bool). cond t Timetable Windows) (sym e)
-
--- an empty text has no first byte `X`
-pub empty_form : (text : List ℕ) → length text ≡ 0 → Windows ≡ form_of text
-empty_form [] h = by_first_byte [] false refl
-empty_form (x ∷ xs) h = absurd (omega arith)
-
 -- of what a listing call gave
 module _ (text : List ℕ) (names : NamePlaces) (s : Sheet) (x : ListReply) (left lent : List ℤ) (pairs_lent : length lent ≡ most_pair_numbers)
-    (call : ListingCall s x left lent) {found : List ℕ} {r : Printed} {after : List ℕ} where
+    (call : ListingCall s x left lent) {found : List ℕ} {r : Option ℕ} {after : List ℕ} where
   put_sheet : Put (ListBytes x text names s left) found r after → Put (SheetBytes text names s) found r after
   put_sheet p =
       record {
@@ -95,7 +82,7 @@ module _ (s : Sheet) (count rounds : ℕ) (pairs : List ℤ) (x : ChoiceReply) (
   unfolding choice_reply
   never_refused c q e = let is = c.is in let z : ◌≡◌ {A = ℕ} 0 1 = cc in omega arith
 
-  pub plan_printed : ChosenLast → (text : List ℕ) (names : NamePlaces) {found : List ℕ} {r : Printed} {after : List ℕ}
+  pub plan_printed : ChosenLast → (text : List ℕ) (names : NamePlaces) {found : List ℕ} {r : Option ℕ} {after : List ℕ}
       → (numbers : List ℤ) (loaded timed : List ℕ) → numbers ≡ take (numbers_a_pair * count) pairs
       → loaded ≡ take s.orders left.trains → timed ≡ take (numbers_a_train * s.trains) left.times
       → Prints (plan_bytes text names numbers loaded timed rounds) found r after → Put (PlanBytes text names s count rounds pairs) found r after
@@ -117,7 +104,7 @@ module _ (s : Sheet) (count rounds : ℕ) (pairs : List ℤ) (x : ChoiceReply) (
 
 -- of the reading x of a text by its form
 module _ (text : List ℕ) (form : Form) (by_form : form ≡ form_of text) (x : Reading) (read : x ≡ reading form text)
-    {found : List ℕ} {r : Printed} {after : List ℕ} where
+    {found : List ℕ} {r : Option ℕ} {after : List ℕ} where
   put_text : Put (ReadBytes text x) found r after → Put (TextBytes text) found r after
   put_text p =
       subst (λ (f : Form). Put (ReadBytes text (reading f text)) found r after) by_form
@@ -131,20 +118,20 @@ module _ (text : List ℕ) (form : Form) (by_form : form ≡ form_of text) (x : 
 
 -- ---- all of it is printed
 
-module _ (text found : List ℕ) (r : Printed) (after : List ℕ) (p : Put (TextBytes text) found r after) (fit : length p.bytes ≤ length found) where
+module _ (text found : List ℕ) (r : Option ℕ) (after : List ℕ) (p : Put (TextBytes text) found r after) (fit : length p.bytes ≤ length found) where
   room : leb (length p.bytes) (length found) ≡ true
   room = le-leb (length p.bytes) (length found) fit
 
-  pub told_all : r ≡ Bytes (length p.bytes)
-  told_all = p.prints.answer ∙ ap (λ t. cond t (Bytes (length p.bytes)) TooShort) room
+  pub told_all : r ≡ Some (length p.bytes)
+  told_all = p.prints.answer ∙ ap (λ t. cond t (Some (length p.bytes)) None) room
 
-  pub all_printed : (n : ℕ) → r ≡ Bytes n → TextPrinted text found n after
+  pub all_printed : (n : ℕ) → r ≡ Some n → TextPrinted text found n after
   all_printed n e =
       record {
         bytes = p.bytes;
         of_text = p.of_text;
         fit = fit;
-        all = let k : Bytes n ≡ Bytes (length p.bytes) = sym e ∙ told_all in cc;
+        all = let k : Some n ≡ Some (length p.bytes) = sym e ∙ told_all in cc;
         page = p.prints.out ∙ ap (λ t. cond t (over p.bytes found) found) room;
       }
 

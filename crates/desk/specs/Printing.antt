@@ -1,5 +1,5 @@
 -- DOCUMENT 01, "THE PRINTED PLAN", AND DOCUMENT 02, NO. 1: WHAT IS PRINTED OF A TEXT.
-use Rattle.std.specs.Prelude.{◌≡◌, cond, List, ℕ, ◌*◌, ◌≤◌, eqb, ℤ, length, take}
+use Rattle.std.specs.Prelude.{◌≡◌, cond, Option, List, ℕ, ◌*◌, ◌≤◌, eqb, ℤ, length, take}
 use Rattle.numbers.specs.Counting.{at}
 use Rattle.numbers.specs.Over.{over}
 use Rattle.model.specs.Sheet.{Sheet}
@@ -19,7 +19,6 @@ use Rattle.planner.specs.InAreas.{pairs_in}
 use Rattle.planner.specs.Listing.{ListingCall}
 use Rattle.planner.specs.Choosing.{ChoosingCall}
 use Rattle.writing.specs.Writing.{Prints}
-use Rattle.writing.specs.declared.Printed.{Printed}
 use Rattle.layout.specs.Lines.{refusal_line}
 use Rattle.printer.specs.PlanBytes.{plan_bytes}
 
@@ -76,7 +75,7 @@ pub record TextPrinted (text found : List ℕ) (given : ℕ) (after : List ℕ) 
   pub page : after ≡ over bytes found
 
 -- the same where it may be that they do not fit
-pub record Put (OfText : (bytes : List ℕ) → Type 0) (found : List ℕ) (r : Printed) (after : List ℕ) : Type 0 where
+pub record Put (OfText : (bytes : List ℕ) → Type 0) (found : List ℕ) (r : Option ℕ) (after : List ℕ) : Type 0 where
   pub bytes : List ℕ
   pub of_text : OfText bytes
   pub prints : Prints bytes found r after

@@ -11,23 +11,18 @@ use areas::{first_orders, first_pairs, first_times, last_arrival};
 use fields::NamePlaces;
 use model::limits::{MOST_ORDERS, MOST_PAIR_NUMBERS, MOST_PRINTED, MOST_TIME_NUMBERS};
 use model::{Form, Sheet};
-use writing::Printed;
 
 // Reads a text, lists the pairs of its sheet, chooses the plan for the last of them, and prints it or the refusal to the front of the page, which is long
 // enough for each. Gives how many bytes it printed.
 pub fn print_text(text: &[u8], page: &mut [u8; MOST_PRINTED]) -> usize
     ensures { TextPrinted text.now page.old result page.new }
 {
-    let printed = put_text(text, page);
-    // There is no other case: the contract says how many bytes a text has, and that they fit.
-    let Printed::Bytes(length) = printed else {
-        return 0;
-    };
-    length
+    // There is always a length: the contract says how many bytes a text has, and that they fit.
+    put_text(text, page).unwrap_or(0)
 }
 
 // The same in a buffer that may be too short.
-fn put_text(text: &[u8], out: &mut [u8]) -> Printed
+fn put_text(text: &[u8], out: &mut [u8]) -> Option<usize>
     ensures { Put (TextBytes text.now) out.old result out.new }
 {
     let form = form_of(text);
@@ -41,21 +36,19 @@ fn put_text(text: &[u8], out: &mut [u8]) -> Printed
     put_sheet(text, names, sheet, out)
 }
 
-// A first byte `X`, 88, means the timetable form.
+// A first byte `X` means the timetable form.
+#[tactic(auto, unfolding(crate::specs::Printing::form_of))]
 fn form_of(text: &[u8]) -> Form
     ensures { result ≡ form_of text.now }
 {
-    if text.len() == 0 {
-        return Form::Windows;
+    match text {
+        [b'X', ..] => Form::Timetable,
+        _ => Form::Windows,
     }
-    if text[0] == 88 {
-        return Form::Timetable;
-    }
-    Form::Windows
 }
 
 // Lists the pairs of a text's sheet, in an area that is long enough for every sheet, and prints the plan or the refusal.
-fn put_sheet(text: &[u8], names: NamePlaces, sheet: Sheet, out: &mut [u8]) -> Printed
+fn put_sheet(text: &[u8], names: NamePlaces, sheet: Sheet, out: &mut [u8]) -> Option<usize>
     ensures { Put (SheetBytes text.now names (sheet_of sheet)) out.old result out.new }
 {
     let mut pairs: [i64; MOST_PAIR_NUMBERS] = [0; MOST_PAIR_NUMBERS];
@@ -79,7 +72,7 @@ fn put_plan(
     count: usize,
     rounds: usize,
     out: &mut [u8],
-) -> Printed
+) -> Option<usize>
     requires { (found : List ℤ) × ListingCall (sheet_of sheet) (Listed count rounds) pairs.now found }
     ensures { Put (PlanBytes text.now names (sheet_of sheet) count rounds pairs.now)
         out.old result out.new }

@@ -1,14 +1,13 @@
 // Document 01, "The printed plan": a plan or a refusal as bytes in a lent buffer, which stays as found where they do not fit.
 #![tactic(auto)]
 
-ghost use Rattle.std.specs.Prelude.{◌≡◌};
+ghost use Rattle.std.specs.Prelude.{◌≡◌, Some};
 ghost use Rattle.writing.specs.Writing.{Prints, state, pass};
 ghost use Rattle.layout.specs.Lines.{refusal_line};
 ghost use Rattle.printer.specs.PlanBytes.{plan_bytes};
 
 use fields::NamePlaces;
 use model::Refusal;
-use writing::{Place, Printed};
 
 // Prints a plan: the listed pairs (two numbers a pair), the train of each order, the times of each train (three numbers a train: departure, arrival, window)
 // and the rounds, with the names of the orders from their places in the sheet's text. A lone last number of the pairs, and one or two last numbers of the
@@ -21,12 +20,12 @@ pub fn print_plan(
     times: &[u32],
     rounds: usize,
     out: &mut [u8],
-) -> Printed
+) -> Option<usize>
     ensures { Prints
         (plan_bytes text.now names pairs.now train_of_order.now times.now rounds)
         out.old result out.new }
 {
-    let end = plan_lines(
+    plan_lines(
         text,
         names,
         pairs,
@@ -35,24 +34,16 @@ pub fn print_plan(
         rounds,
         out,
         false,
-    );
-    let Place::At(length) = end else {
-        return Printed::TooShort;
-    };
-    plan_lines(text, names, pairs, train_of_order, times, rounds, out, true);
-    Printed::Bytes(length)
+    )?;
+    plan_lines(text, names, pairs, train_of_order, times, rounds, out, true)
 }
 
 // Prints a refusal.
-pub fn print_refusal(refusal: Refusal, out: &mut [u8]) -> Printed
+pub fn print_refusal(refusal: Refusal, out: &mut [u8]) -> Option<usize>
     ensures { Prints (refusal_line refusal) out.old result out.new }
 {
-    let end = layout::refusal_line(out, Place::At(0), false, refusal);
-    let Place::At(length) = end else {
-        return Printed::TooShort;
-    };
-    layout::refusal_line(out, Place::At(0), true, refusal);
-    Printed::Bytes(length)
+    layout::refusal_line(out, Some(0), false, refusal)?;
+    layout::refusal_line(out, Some(0), true, refusal)
 }
 
 // All lines of a plan, from the front of the buffer.
@@ -65,12 +56,12 @@ fn plan_lines(
     rounds: usize,
     out: &mut [u8],
     writing: bool,
-) -> Place
+) -> Option<usize>
     ensures { state result out.new ≡ pass writing (plan_bytes text.now names
         pairs.now train_of_order.now times.now rounds)
-        (state (Place.At 0) out.old) }
+        (state (Some 0) out.old) }
 {
-    let behind_pairs = layout::pair_lines(out, Place::At(0), writing, pairs);
+    let behind_pairs = layout::pair_lines(out, Some(0), writing, pairs);
     let behind_times = layout::time_lines(out, behind_pairs, writing, times);
     let behind_orders = layout::order_lines(
         out,

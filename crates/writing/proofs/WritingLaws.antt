@@ -1,11 +1,8 @@
 -- Laws of the pass over a buffer: passes join, one that is not writing finds the length, and one that is writing puts the bytes.
-use Rattle.std.specs.Prelude.{Bool, true, false, cond, ◌≡◌, refl, List, [], ◌∷◌, ◌++◌, ℕ, suc, ◌+◌, ◌≤◌, ◌<◌, ltb, leb, length, set, drop}
+use Rattle.std.specs.Prelude.{Bool, true, false, cond, Option, Some, None, ◌≡◌, refl, List, [], ◌∷◌, ◌++◌, ℕ, suc, ◌+◌, ◌≤◌, ◌<◌, ltb, leb, length, set, drop}
 use Rattle.std.proofs.Common.{ap, sym, ◌∙◌, add-one, arith, length-set, lt-ltb, le-ltb, leb-true, leb-false, ltb-true, ltb-false}
 use Rattle.std.proofs.lemmas.List.Edits.{sets, sets-eq}
 use Rattle.numbers.specs.Over.{over}
-use Rattle.writing.specs.declared.Place.{Place}
-use Rattle.writing.specs.declared.Place.TheVariants.{At, Past}
-use Rattle.writing.specs.declared.Printed.TheVariants.{Bytes, TooShort}
 use Rattle.writing.specs.Writing.{State, state, put_byte, pass, Prints}
 
 pub pass_none : (w : Bool) (s : State) → pass w [] s ≡ s
@@ -32,59 +29,47 @@ pass_same w r g e = e ∙ ap (λ (l : List ℕ). pass w l r) g
 
 -- ---- one byte
 
-pub put_past : (w : Bool) (b : ℕ) (o : List ℕ) → pass w (b ∷ []) (state Past o) ≡ state Past o
-unfolding pass put_byte
-put_past w b o = refl
-
-pub put_short : (w : Bool) (b a : ℕ) (o : List ℕ) → length o ≤ a → pass w (b ∷ []) (state (At a) o) ≡ state Past o
+put_short : (w : Bool) (b a : ℕ) (o : List ℕ) → length o ≤ a → pass w (b ∷ []) (state (Some a) o) ≡ state None o
 unfolding pass put_byte
 put_short w b a o h = rw (le-ltb a (length o) h)
 
-pub put_written : (b a : ℕ) (o : List ℕ) → a < length o → pass true (b ∷ []) (state (At a) o) ≡ state (At (a + 1)) (set o a b)
-unfolding pass put_byte
-put_written b a o h = rw (lt-ltb a (length o) h)
-
-pub put_counted : (b a : ℕ) (o : List ℕ) → a < length o → pass false (b ∷ []) (state (At a) o) ≡ state (At (a + 1)) o
-unfolding pass put_byte
-put_counted b a o h = rw (lt-ltb a (length o) h)
-
 -- ---- a whole pass
 
-stays_past : (w : Bool) (bs : List ℕ) (o : List ℕ) → pass w bs (state Past o) ≡ state Past o
+stays_none : (w : Bool) (bs : List ℕ) (o : List ℕ) → pass w bs (state None o) ≡ state None o
 unfolding pass put_byte
-stays_past w [] o = refl
-stays_past w (b ∷ bs) o = stays_past w bs o
+stays_none w [] o = refl
+stays_none w (b ∷ bs) o = stays_none w bs o
 
 -- past the first byte, where it fits
 next : (w : Bool) (b : ℕ) (bs : List ℕ) (a : ℕ) (o : List ℕ) → a < length o →
-    pass w (b ∷ bs) (state (At a) o) ≡ pass w bs (state (At (suc a)) (cond w (set o a b) o))
+    pass w (b ∷ bs) (state (Some a) o) ≡ pass w bs (state (Some (suc a)) (cond w (set o a b) o))
 unfolding pass put_byte
 next w b bs a o h = rw (lt-ltb a (length o) h, add-one a)
 
-counted : (bs : List ℕ) (a : ℕ) (o : List ℕ) → a + length bs ≤ length o → pass false bs (state (At a) o) ≡ state (At (a + length bs)) o
-counted [] a o h = let e : a ≡ a + 0 = omega arith in pass_none false (state (At a) o) ∙ ap (λ (n : ℕ). state (At n) o) e
+counted : (bs : List ℕ) (a : ℕ) (o : List ℕ) → a + length bs ≤ length o → pass false bs (state (Some a) o) ≡ state (Some (a + length bs)) o
+counted [] a o h = let e : a ≡ a + 0 = omega arith in pass_none false (state (Some a) o) ∙ ap (λ (n : ℕ). state (Some n) o) e
 counted (b ∷ bs) a o h =
     let e : suc a + length bs ≡ a + suc (length bs) = omega arith in
-    next false b bs a o (omega arith) ∙ counted bs (suc a) o (omega arith) ∙ ap (λ (n : ℕ). state (At n) o) e
+    next false b bs a o (omega arith) ∙ counted bs (suc a) o (omega arith) ∙ ap (λ (n : ℕ). state (Some n) o) e
 
-short : (bs : List ℕ) (a : ℕ) (o : List ℕ) → a ≤ length o → length o < a + length bs → pass false bs (state (At a) o) ≡ state Past o
+short : (bs : List ℕ) (a : ℕ) (o : List ℕ) → a ≤ length o → length o < a + length bs → pass false bs (state (Some a) o) ≡ state None o
 short [] a o p h = absurd (omega arith)
 short (b ∷ bs) a o p h = go (ltb a (length o)) refl (λ x. short bs (suc a) o x (omega arith))
   where
-    go : (t : Bool) → ltb a (length o) ≡ t → (a < length o → pass false bs (state (At (suc a)) o) ≡ state Past o)
-        → pass false (b ∷ bs) (state (At a) o) ≡ state Past o
+    go : (t : Bool) → ltb a (length o) ≡ t → (a < length o → pass false bs (state (Some (suc a)) o) ≡ state None o)
+        → pass false (b ∷ bs) (state (Some a) o) ≡ state None o
     go true e rest = let x = ltb-true a (length o) e in next false b bs a o x ∙ rest x
     go false e rest =
-        pass_append false (b ∷ []) bs (state (At a) o)
+        pass_append false (b ∷ []) bs (state (Some a) o)
         ∙ ap (pass false bs) (put_short false b a o (ltb-false a (length o) e))
-        ∙ stays_past false bs o
+        ∙ stays_none false bs o
 
-written : (bs : List ℕ) (a : ℕ) (o : List ℕ) → a + length bs ≤ length o → pass true bs (state (At a) o) ≡ state (At (a + length bs)) (sets o a bs)
-written [] a o h = let e : a ≡ a + 0 = omega arith in pass_none true (state (At a) o) ∙ ap (λ (n : ℕ). state (At n) o) e
+written : (bs : List ℕ) (a : ℕ) (o : List ℕ) → a + length bs ≤ length o → pass true bs (state (Some a) o) ≡ state (Some (a + length bs)) (sets o a bs)
+written [] a o h = let e : a ≡ a + 0 = omega arith in pass_none true (state (Some a) o) ∙ ap (λ (n : ℕ). state (Some n) o) e
 written (b ∷ bs) a o h =
     let e : suc a + length bs ≡ a + suc (length bs) = omega arith in
     let fits : suc a + length bs ≤ length (set o a b) = simp length-set (omega arith) in
-    next true b bs a o (omega arith) ∙ written bs (suc a) (set o a b) fits ∙ ap (λ (n : ℕ). state (At n) (sets (set o a b) (suc a) bs)) e
+    next true b bs a o (omega arith) ∙ written bs (suc a) (set o a b) fits ∙ ap (λ (n : ℕ). state (Some n) (sets (set o a b) (suc a) bs)) e
 
 -- ---- a printing call: one pass that counts, and one that writes
 
@@ -92,47 +77,46 @@ module _ (bs found : List ℕ) where
   all : 0 + length bs ≡ length bs
   all = omega arith
 
-  counted_all : length bs ≤ length found → pass false bs (state (At 0) found) ≡ state (At (length bs)) found
-  counted_all h = counted bs 0 found (omega arith) ∙ ap (λ (n : ℕ). state (At n) found) all
+  counted_all : length bs ≤ length found → pass false bs (state (Some 0) found) ≡ state (Some (length bs)) found
+  counted_all h = counted bs 0 found (omega arith) ∙ ap (λ (n : ℕ). state (Some n) found) all
 
-  short_all : length found < length bs → pass false bs (state (At 0) found) ≡ state Past found
+  short_all : length found < length bs → pass false bs (state (Some 0) found) ≡ state None found
   short_all h = short bs 0 found (omega arith) (omega arith)
 
-  written_all : length bs ≤ length found → pass true bs (state (At 0) found) ≡ state (At (length bs)) (over bs found)
+  written_all : length bs ≤ length found → pass true bs (state (Some 0) found) ≡ state (Some (length bs)) (over bs found)
   written_all h =
       written bs 0 found (omega arith)
-      ∙ ap (λ (n : ℕ). state (At n) (sets found 0 bs)) all
-      ∙ ap (state (At (length bs))) (sets-eq bs found 0 (omega arith) ∙ ap (λ (n : ℕ). bs ++ drop n found) all)
+      ∙ ap (λ (n : ℕ). state (Some n) (sets found 0 bs)) all
+      ∙ ap (state (Some (length bs))) (sets-eq bs found 0 (omega arith) ∙ ap (λ (n : ℕ). bs ++ drop n found) all)
 
-module _ (bs found : List ℕ) {p : Place} {o : List ℕ} (e : state p o ≡ pass false bs (state (At 0) found)) where
-  -- the counting pass came to a place: the bytes fit, it is their number, and the buffer is as found
-  fits_at : (n : ℕ) → p ≡ At n → (t : Bool) → leb (length bs) (length found) ≡ t → (t ≡ true) × (n ≡ length bs) × (o ≡ found)
+module _ (bs found : List ℕ) {p : Option ℕ} {o : List ℕ} (e : state p o ≡ pass false bs (state (Some 0) found)) where
+  -- the counting pass came to a place: the bytes fit, and the buffer is as found
+  fits_at : (n : ℕ) → p ≡ Some n → (t : Bool) → leb (length bs) (length found) ≡ t → (t ≡ true) × (o ≡ found)
   fits_at n h true f =
-      let x : state p o ≡ state (At (length bs)) found = e ∙ counted_all bs found (leb-true (length bs) (length found) f) in
-      let y : At n ≡ At (length bs) = sym h ∙ ap (λ (s : State). s.place) x in
-      (refl, (cc), ap (λ (s : State). s.out) x)
+      let x : state p o ≡ state (Some (length bs)) found = e ∙ counted_all bs found (leb-true (length bs) (length found) f) in
+      (refl, ap (λ (s : State). s.out) x)
   fits_at n h false f =
-      let x : state p o ≡ state Past found = e ∙ short_all bs found (leb-false (length bs) (length found) f) in
-      let y : At n ≡ Past = sym h ∙ ap (λ (s : State). s.place) x in
+      let x : state p o ≡ state None found = e ∙ short_all bs found (leb-false (length bs) (length found) f) in
+      let y : Some n ≡ None = sym h ∙ ap (λ (s : State). s.place) x in
       let z : ◌≡◌ {A = ℕ} 0 1 = cc in
       absurd (omega arith)
 
-  pub prints_short : p ≡ Past → Prints bs found TooShort o
+  pub prints_short : p ≡ None → Prints bs found None o
   prints_short h = go (leb (length bs) (length found)) refl
     where
-      go : (t : Bool) → leb (length bs) (length found) ≡ t → Prints bs found TooShort o
+      go : (t : Bool) → leb (length bs) (length found) ≡ t → Prints bs found None o
       go true f =
-          let x : state p o ≡ state (At (length bs)) found = e ∙ counted_all bs found (leb-true (length bs) (length found) f) in
-          let y : Past ≡ At (length bs) = sym h ∙ ap (λ (s : State). s.place) x in
+          let x : state p o ≡ state (Some (length bs)) found = e ∙ counted_all bs found (leb-true (length bs) (length found) f) in
+          let y : None ≡ Some (length bs) = sym h ∙ ap (λ (s : State). s.place) x in
           let z : ◌≡◌ {A = ℕ} 0 1 = cc in
           absurd (omega arith)
       go false f =
-          let x : state p o ≡ state Past found = e ∙ short_all bs found (leb-false (length bs) (length found) f) in
+          let x : state p o ≡ state None found = e ∙ short_all bs found (leb-false (length bs) (length found) f) in
           record { answer = rw f; out = rw f (ap (λ (s : State). s.out) x) }
 
-  pub prints_bytes : (n : ℕ) → p ≡ At n → {r : Place} {after : List ℕ} → state r after ≡ pass true bs (state (At 0) o) → Prints bs found (Bytes n) after
+  pub prints_bytes : (n : ℕ) → p ≡ Some n → {r : Option ℕ} {after : List ℕ} → state r after ≡ pass true bs (state (Some 0) o) → Prints bs found r after
   prints_bytes n h {r} {after} g =
       let k = fits_at n h (leb (length bs) (length found)) refl in
       let x : length bs ≤ length found = leb-true (length bs) (length found) k.0 in
-      let y : state r after ≡ state (At (length bs)) (over bs found) = g ∙ rw k.2 (written_all bs found x) in
-      record { answer = rw k.0 (ap Bytes k.1); out = rw k.0 (ap (λ (s : State). s.out) y) }
+      let y : state r after ≡ state (Some (length bs)) (over bs found) = g ∙ rw k.1 (written_all bs found x) in
+      record { answer = rw k.0 (ap (λ (s : State). s.place) y); out = rw k.0 (ap (λ (s : State). s.out) y) }

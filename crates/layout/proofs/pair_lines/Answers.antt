@@ -1,28 +1,42 @@
 -- `pair_lines` meets its contract: the loop's invariant is that the lines passed are put. Assumes nothing.
-use Rattle.std.proofs.Common.{◌+◌, ◌*◌, ◌≡◌, refl, ap, ◌∙◌, arith, get_or, ℤ, pos, to_z, of_z, w64, SFits, rules}
+use Rattle.std.proofs.Common.{◌+◌, ◌*◌, ◌≡◌, [], ◌∷◌, ◌++◌, refl, sym, ap, ◌∙◌, arith, rules, length, drop, get_or, length-append}
+use Rattle.std.proofs.Common.{ℤ, pos, to_z, of_z, w64, SFits}
 use Rattle.std.proofs.Math.Facts.{to_z-of_z}
 use Rattle.model.specs.Limits.{numbers_a_pair}
 use Rattle.writing.specs.Writing.{state, pass}
 use Rattle.writing.proofs.WritingLaws.{pass_more, pass_same}
 use Rattle.layout.specs.Lines.{pair_line, pair_lines}
-use Rattle.layout.proofs.LineLaws.{pair_next}
+use Rattle.layout.proofs.LineLaws.{pair_next, rest_left, number_read}
 use Rattle.layout.proofs.pair_lines.Goals as goal
 
-pub loop-i-init : goal.loop-i-init
+pub loop-pair-init : goal.loop-pair-init
 unfolding pass pair_lines
-loop-i-init c = (omega arith, refl, refl)
+loop-pair-init c = search rules
 
-pub loop-i-preserved : goal.loop-i-preserved
-loop-i-preserved c =
-    let l = c.loop-i in
+pub loop-pair-preserved : goal.loop-pair-preserved
+loop-pair-preserved c =
+    let l = c.loop-pair in
     let a = c.args in
-    let x = get_or a.pairs.now (numbers_a_pair * l.i) (pos 0) in
-    let y = get_or a.pairs.now (numbers_a_pair * l.i + 1) (pos 0) in
-    let x-fits : SFits w64 x = search rules in
-    let y-fits : SFits w64 y = search rules in
-    let last : to_z w64 (of_z w64 x) ≡ x = to_z-of_z {w = w64} x-fits in
-    let worst : to_z w64 (of_z w64 y) ≡ y = to_z-of_z {w = w64} y-fits in
-    let line : pair_line (to_z w64 (of_z w64 x)) (to_z w64 (of_z w64 y)) ≡ pair_line x y =
-    ap (λ (z : ℤ). pair_line z (to_z w64 (of_z w64 y))) last ∙ ap (pair_line x) worst in
+    let pairs = a.pairs.now in
+    let pair = c.in-Some.pair.now in
+    let n = length l.yielded in
+    let steps = c.in-Some.ensures.steps in
+    let k = numbers_a_pair * n in
+    let long : length pair ≡ numbers_a_pair = steps.1.1 ∙ l.invariant.0 in
+    let cut : drop k pairs ≡ pair ++ c.next.new.self.rest.now = sym l.invariant.1 ∙ steps.1.0 in
+    let more : length (l.yielded ++ c.in-Some.pair ∷ []) ≡ n + 1 = length-append l.yielded (c.in-Some.pair ∷ []) in
+    let x = get_or pairs k (pos 0) in
+    let y = get_or pairs (k + 1) (pos 0) in
+    let x-fits : SFits w64 (get_or pair 0 (pos 0)) = search rules in
+    let y-fits : SFits w64 (get_or pair 1 (pos 0)) = search rules in
+    let last : to_z w64 (of_z w64 (get_or pair 0 (pos 0))) ≡ x =
+    to_z-of_z {w = w64} x-fits ∙ number_read k pairs pair _ cut 0 k (pos 0) (omega arith) (omega (arith, long)) in
+    let worst : to_z w64 (of_z w64 (get_or pair 1 (pos 0))) ≡ y =
+    to_z-of_z {w = w64} y-fits ∙ number_read k pairs pair _ cut 1 (k + 1) (pos 0) refl (omega (arith, long)) in
+    let line = ap (λ (z : ℤ). pair_line z (to_z w64 (of_z w64 (get_or pair 1 (pos 0))))) last ∙ ap (pair_line x) worst in
     let put = pass_same a.writing (state l.behind l.out) line c.pair_line-behind.ensures in
-    (omega arith, omega arith, pass_more _ _ _ _ (pair_next a.pairs.now l.i) l.invariant.2 put)
+    rw more (
+      steps.0 ∙ l.invariant.0,
+      rest_left k pairs pair _ cut _ (omega (arith, long)),
+      pass_more _ _ _ _ (pair_next pairs n) l.invariant.2 put,
+    )

@@ -3,9 +3,11 @@ use Rattle.writing.proofs.WritingLaws.{prints_short, prints_bytes}
 use Rattle.layout.specs.Lines.{refusal_line}
 use Rattle.printer.proofs.print_refusal.Goals as goal
 
-pub returns-in_default : goal.returns-in_default
-returns-in_default c = prints_short (refusal_line c.args.refusal) c.args.out.now c.refusal_line-end.ensures c.in_default.is
+pub returns-in_err-refusal_line : goal.returns-in_err-refusal_line
+returns-in_err-refusal_line c =
+    rw c.from_residual.ensures
+    (prints_short (refusal_line c.args.refusal) c.args.out.now c.refusal_line.ensures c.in_err-refusal_line.was)
 
 pub returns : goal.returns
 returns c =
-    prints_bytes (refusal_line c.args.refusal) c.args.out.now c.refusal_line-end.ensures c.in-At.length c.in-At.is c.refusal_line.ensures
+    prints_bytes (refusal_line c.args.refusal) c.args.out.now c.refusal_line.ensures _ c.in_ok-refusal_line.was c.refusal_line-2.ensures
