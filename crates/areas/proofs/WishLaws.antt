@@ -1,31 +1,22 @@
--- A number of the pairs area as an arrival. Assumes nothing.
-use Rattle.std.specs.Prelude.{◌≡◌, refl, true, false, ℕ, T, ℤ, pos, negsuc, nat_abs}
-use Rattle.std.proofs.Common.{sym, arith, ltb-true, ltb-false, Fits}
-use Rattle.std.specs.Int.Signed.{lt_z, non_neg}
-use Rattle.std.specs.Int.{w32}
+-- A number of the pairs area as an arrival: whether it fits 32 bits, and is no greater than the last arrival. Assumes nothing.
+use Rattle.std.specs.Prelude.{◌≡◌, refl, ℕ, ◌≤◌, ◌<◌, ℤ, pos, negsuc, nat_abs}
+use Rattle.std.proofs.Common.{sym, ◌∙◌, arith}
+use Rattle.std.specs.Int.{FitsUnsignedBits}
 use Rattle.numbers.specs.DecidesLaws.{decides_le, cond_yes, cond_no}
 use Rattle.model.specs.Limits.{last_arrival}
 use Rattle.areas.specs.Wish.{arrival_of}
 
-pub negative : (z : ℤ) → lt_z z (pos 0) ≡ true → 0 ≡ arrival_of z
+pub an_arrival : (z : ℤ) (n : ℕ) → FitsUnsignedBits 32 z → n ≡ nat_abs z → n ≤ last_arrival → n ≡ arrival_of z
 unfolding arrival_of
-negative (pos n) h = absurd (omega (arith, ltb-true n 0 h))
-negative (negsuc n) h = refl
+an_arrival (pos m) n f e l = e ∙ sym (cond_yes (decides_le m last_arrival) (omega arith) m 0)
+an_arrival (negsuc m) n f e l = absurd f
 
-pub too_great : (z : ℤ) → lt_z (pos last_arrival) z ≡ true → 0 ≡ arrival_of z
+pub too_great : (z : ℤ) (n : ℕ) → n ≡ nat_abs z → last_arrival < n → 0 ≡ arrival_of z
 unfolding arrival_of
-too_great (pos n) h = sym (cond_no (decides_le n last_arrival) (λ l. omega (arith, ltb-true last_arrival n h)) n 0)
-too_great (negsuc n) h = refl
+too_great (pos m) n e l = sym (cond_no (decides_le m last_arrival) (λ h. omega arith) m 0)
+too_great (negsuc m) n e l = refl
 
--- what passes both tests fits 32 bits, and is the arrival
-pub record IsArrival (z : ℤ) : Type 0 where
-  pub not_negative : T (non_neg z)
-  pub fits : Fits w32 (nat_abs z)
-  pub is : nat_abs z ≡ arrival_of z
-
-pub an_arrival : (z : ℤ) → lt_z z (pos 0) ≡ false → lt_z (pos last_arrival) z ≡ false → IsArrival z
+pub no_fit : (z : ℤ) → (FitsUnsignedBits 32 z → ⊥) → 0 ≡ arrival_of z
 unfolding arrival_of
-an_arrival (pos n) h g =
-    let l = ltb-false last_arrival n g in
-    record { not_negative = tt; fits = record { fits = omega arith }; is = sym (cond_yes (decides_le n last_arrival) l n 0) }
-an_arrival (negsuc n) h g = absurd (let z : ◌≡◌ {A = ℕ} 0 1 = cc in omega arith)
+no_fit (pos m) f = sym (cond_no (decides_le m last_arrival) (λ h. f (omega arith)) m 0)
+no_fit (negsuc m) f = refl

@@ -11,57 +11,46 @@ use model::limits::{LAST_ARRIVAL, NUMBERS_A_PAIR, NUMBERS_A_TRAIN};
 pub fn first_pairs(pairs: &[i64], count: usize) -> &[i64]
     ensures { result.now ≡ take (numbers_a_pair * count) pairs.now }
 {
-    if pairs.len() / NUMBERS_A_PAIR < count {
-        return pairs;
-    }
-    let end = NUMBERS_A_PAIR * count;
-    &pairs[0..end]
+    front(pairs, NUMBERS_A_PAIR.saturating_mul(count))
 }
 
 // The arrival of the last of the first pairs; 0 if there are not so many.
 pub fn last_arrival(pairs: &[i64], count: usize) -> u32
     ensures { ForLast count pairs.now result }
 {
-    if count == 0 {
+    if count == 0 || pairs.len() / NUMBERS_A_PAIR < count {
         return 0;
     }
-    if pairs.len() / NUMBERS_A_PAIR < count {
-        return 0;
-    }
-    let place = NUMBERS_A_PAIR * (count - 1);
-    arrival_of(pairs[place])
+    arrival_of(pairs[NUMBERS_A_PAIR * (count - 1)])
 }
 
 // A number of the pairs area as an arrival; 0 if it is none.
 fn arrival_of(number: i64) -> u32
     ensures { result ≡ arrival_of number }
 {
-    if number < 0 {
-        return 0;
+    match u32::try_from(number) {
+        Ok(arrival) if arrival <= LAST_ARRIVAL => arrival,
+        _ => 0,
     }
-    if number > LAST_ARRIVAL as i64 {
-        return 0;
-    }
-    number as u32
 }
 
 // The trains of the first orders.
 pub fn first_orders(trains: &[u8], orders: usize) -> &[u8]
     ensures { result.now ≡ take orders trains.now }
 {
-    if trains.len() < orders {
-        return trains;
-    }
-    &trains[0..orders]
+    front(trains, orders)
 }
 
 // The times of the first trains.
 pub fn first_times(times: &[u32], trains: usize) -> &[u32]
     ensures { result.now ≡ take (numbers_a_train * trains) times.now }
 {
-    if times.len() / NUMBERS_A_TRAIN < trains {
-        return times;
-    }
-    let end = NUMBERS_A_TRAIN * trains;
-    &times[0..end]
+    front(times, NUMBERS_A_TRAIN.saturating_mul(trains))
+}
+
+// The first elements of an area; all if there are no more.
+fn front<T>(area: &[T], count: usize) -> &[T]
+    ensures { result.now ≡ take count area.now }
+{
+    &area[..count.min(area.len())]
 }
