@@ -14,7 +14,7 @@ use Rattle.model.specs.Sheet.{places}
 use Rattle.model.specs.Lateness.{lateness, greatest_lateness}
 use Rattle.model.proofs.LatenessLaws.{lateness_size}
 use Rattle.rounds.specs.Lowering.{latest_below, lower, crowded_at, crowded}
-use Rattle.lowering.specs.SoFar.{LoweredFrom, crowded_below}
+use Rattle.lowering.specs.SoFar.{LoweredTo, crowded_below}
 
 -- ---- signed numbers
 
@@ -22,12 +22,6 @@ use Rattle.lowering.specs.SoFar.{LoweredFrom, crowded_below}
 pub small_fits : (z : ℤ) (top h : ℕ) → nat_abs z ≤ top → top < h → mag z < h
 small_fits (pos n) top h k l = omega arith
 small_fits (negsuc n) top h k l = omega arith
-
-pub larger_second : (a b : ℤ) → lt_z a b ≡ true → b ≡ larger a b
-larger_second a b e = rw e
-
-pub larger_first : (a b : ℤ) → lt_z a b ≡ false → a ≡ larger a b
-larger_first a b e = rw e
 
 -- a lateness in the table's ranges
 pub lateness_small : (w f d : ℕ) → w ≤ 1000 → f ≤ 160000 → d ≤ 100000 → nat_abs (lateness w f d) ≤ 160000000
@@ -108,35 +102,34 @@ lower_taken weight due arrival y latest q zero h = refl
 lower_taken weight due arrival y latest q (suc n) h =
     rw (lower_taken weight due arrival y latest q n (λ j l. h j (omega arith)), latest_taken (weight n) (due n) arrival y q (at latest n) (h n (omega arith)))
 
-module _ (weight due F : ℕ → ℕ) (y : ℤ) (latest : List ℕ) (all : ℕ) where
-  abbrev From : (n : ℕ) (now : List ℕ) → Type 0
-  From = LoweredFrom weight due F y latest all
+module _ (weight due F : ℕ → ℕ) (y : ℤ) (latest : List ℕ) where
+  abbrev To : (n : ℕ) (now : List ℕ) → Type 0
+  To = LoweredTo weight due F y latest
 
-  pub lowered_none : From all latest
-  lowered_none = record { kept = λ k l. refl; done = λ k l m. absurd (omega arith) }
+  pub lowered_none : To 0 latest
+  lowered_none = record { done = λ k l. absurd (omega arith); kept = λ k l. refl }
 
-  -- the store of one more, before those
-  pub lowered_more : (n : ℕ) (now : List ℕ) (v : ℕ) → 0 < n → n ≤ length now
-      → v ≡ latest_below (weight (n - 1)) (due (n - 1)) F y (at now (n - 1)) → From n now → From (n - 1) (set now (n - 1) v)
-  lowered_more n now v some few e s =
+  -- the store of one more, behind those
+  pub lowered_more : (n : ℕ) (now : List ℕ) (v : ℕ) → n < length now → v ≡ latest_below (weight n) (due n) F y (at now n) → To n now
+      → To (n + 1) (set now n v)
+  lowered_more n now v few e s =
       record {
-        kept = λ k l. get_or-set_other now (n - 1) k v 0 (λ u. omega arith) ∙ s.kept k (omega arith);
-        done = λ k l m. go k l m (decided (decides_eq k (n - 1)));
+        done = λ k l. go k l (decided (decides_eq k n));
+        kept = λ k l. get_or-set_other now n k v 0 (λ u. omega arith) ∙ s.kept k (omega arith);
       }
     where
-      go : (k : ℕ) → n - 1 ≤ k → k < all → (k ≡ n - 1) ⊎ (¬ (k ≡ n - 1)) → at (set now (n - 1) v) k ≡ latest_below (weight k) (due k) F y (at latest k)
-      go k l m (inl u) = rw (u, get_or-set_same now (n - 1) v 0 (omega arith), e, s.kept (n - 1) (omega arith))
-      go k l m (inr u) = get_or-set_other now (n - 1) k v 0 u ∙ s.done k (omega arith) m
+      go : (k : ℕ) → k < n + 1 → (k ≡ n) ⊎ (¬ (k ≡ n)) → at (set now n v) k ≡ latest_below (weight k) (due k) F y (at latest k)
+      go k l (inl u) = rw (u, get_or-set_same now n v 0 few, e, s.kept n (omega arith))
+      go k l (inr u) = get_or-set_other now n k v 0 u ∙ s.done k (omega arith)
 
-  taken : (now : List ℕ) → From 0 now → (n : ℕ) → n ≤ all → n ≤ length now → take n now ≡ lower n weight due F y (take all latest)
+  pub lowered_all : (all : ℕ) (now : List ℕ) → all ≤ length now → To all now → take all now ≡ lower all weight due F y (take all latest)
   unfolding lower table
-  taken now s zero l m = refl
-  taken now s (suc n) l m =
-      let is = s.done n (omega arith) (omega arith) in
-      rw (take-suc now n 0 (omega arith), taken now s n (omega arith) (omega arith), is, get_or-take all latest n 0 (omega arith))
-
-  pub lowered_all : (n : ℕ) (now : List ℕ) → n ≡ 0 → all ≤ length now → From n now → take all now ≡ lower all weight due F y (take all latest)
-  lowered_all n now e m s = taken now (rw e at s) all (omega arith) m
+  lowered_all all now m s = go all (omega arith)
+    where
+      go : (n : ℕ) → n ≤ all → take n now ≡ lower n weight due F y (take all latest)
+      go zero l = refl
+      go (suc n) l =
+          rw (take-suc now n 0 (omega arith), go n (omega arith), s.done n (omega arith), get_or-take all latest n 0 (omega arith))
 
 -- ---- crowding
 

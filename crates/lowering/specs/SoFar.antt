@@ -3,10 +3,10 @@ use Rattle.std.specs.Prelude.{◌≡◌, Bool, false, List, ℕ, zero, suc, ◌�
 use Rattle.numbers.specs.Counting.{at}
 use Rattle.rounds.specs.Lowering.{latest_below, crowded}
 
--- of `all` latest trains the first n are as they were and the others are lowered
-pub record LoweredFrom (weight due F : ℕ → ℕ) (y : ℤ) (latest : List ℕ) (all n : ℕ) (now : List ℕ) : Type 0 where
-  pub kept : (k : ℕ) → k < n → at now k ≡ at latest k
-  pub done : (k : ℕ) → n ≤ k → k < all → at now k ≡ latest_below (weight k) (due k) F y (at latest k)
+-- of these latest trains the first n are lowered and the others are as they were
+pub record LoweredTo (weight due F : ℕ → ℕ) (y : ℤ) (latest : List ℕ) (n : ℕ) (now : List ℕ) : Type 0 where
+  pub done : (k : ℕ) → k < n → at now k ≡ latest_below (weight k) (due k) F y (at latest k)
+  pub kept : (k : ℕ) → n ≤ k → at now k ≡ at latest k
 
 -- whether it is crowded at some number below i
 unfoldable pub crowded_below : (n : ℕ) (capacity : ℕ → ℕ) (latest : List ℕ) → ℕ → Bool

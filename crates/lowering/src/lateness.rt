@@ -29,13 +29,8 @@ pub fn worst_of(
     ensures { result ≡ greatest_lateness n (at weight) (at due) (take n train) (nth arrival) }
 {
     let mut worst = 0 - FIRST_LIMIT;
-    let mut j: usize = 0;
-    while j < n {
-        let late = lateness_on(weight[j], due[j], &arrival, train[j]);
-        if worst < late {
-            worst = late;
-        }
-        j += 1;
+    for j in 0..n {
+        worst = lateness_on(weight[j], due[j], &arrival, train[j]).max(worst);
     }
     worst
 }

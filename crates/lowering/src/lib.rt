@@ -15,22 +15,21 @@ use crate::lateness::lateness_on;
 use model::limits::{MOST_ORDERS, MOST_TRAINS};
 
 // The greatest train, not above the present one i, on which the order's lateness is below y; 0 if there is none.
-fn latest_below(weight: u32, due: u32, arrival: &[u32; MOST_TRAINS], y: i64, mut i: u8) -> u8
+fn latest_below(weight: u32, due: u32, arrival: &[u32; MOST_TRAINS], y: i64, i: u8) -> u8
     requires { (weight ≤ weight_range.most) × (due ≤ last_instant) × (i ≤ train_counts.most) × UpTo last_arrival i arrival.now }
     ensures { result ≡ latest_below weight due (nth arrival.now) y i }
 {
-    while i > 0 {
-        if lateness_on(weight, due, arrival, i) < y {
-            break;
+    for k in (1..=i).rev() {
+        if lateness_on(weight, due, arrival, k) < y {
+            return k;
         }
-        i -= 1;
     }
-    i
+    0
 }
 
 // The latest trains of n orders, each lowered under the limit y.
 pub fn lower(
-    mut n: usize,
+    n: usize,
     weight: [u32; MOST_ORDERS],
     due: [u32; MOST_ORDERS],
     arrival: [u32; MOST_TRAINS],
@@ -40,9 +39,8 @@ pub fn lower(
     requires { Ranged n weight due × ArrivesTo n latest arrival }
     ensures { take n result ≡ lowered n (at weight) (at due) (nth arrival) y (take n latest) }
 {
-    while n > 0 {
-        n -= 1;
-        latest[n] = latest_below(weight[n], due[n], &arrival, y, latest[n]);
+    for j in 0..n {
+        latest[j] = latest_below(weight[j], due[j], &arrival, y, latest[j]);
     }
     latest
 }
@@ -55,10 +53,8 @@ fn crowded_at(latest: &[u8; MOST_ORDERS], n: usize, i: usize, places: u32) -> bo
 {
     let train = i as u8;
     let mut orders: u8 = 0;
-    let mut j: usize = 0;
-    while j < n {
-        orders += (latest[j] <= train) as u8;
-        j += 1;
+    for &last in &latest[..n] {
+        orders += (last <= train) as u8;
     }
     places < (orders as u32)
 }
@@ -75,11 +71,9 @@ pub fn is_crowded(
 {
     let mut crowded = false;
     let mut places: u32 = 0;
-    let mut i: usize = 0;
-    while i < q {
+    for i in 0..q {
         crowded = crowded_at(&latest, n, i, places) | crowded;
         places += capacity[i];
-        i += 1;
     }
     crowded
 }

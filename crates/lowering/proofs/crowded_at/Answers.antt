@@ -1,19 +1,26 @@
--- `lowering::crowded_at` meets its contract: the loop's invariant is that `orders` is the count among the first j. Assumes nothing.
-use Rattle.std.proofs.Common.{ℕ, ◌+◌, leb, arith}
+-- `lowering::crowded_at` meets its contract: the loop's invariant is that `orders` is the count among the latest trains passed. Assumes nothing.
+use Rattle.std.proofs.Common.{ℕ, ◌+◌, leb, arith, length-take}
 use Rattle.numbers.specs.Counting.{at}
 use Rattle.numbers.specs.CountingLaws.{count_start, count_le}
+use Rattle.numbers.specs.ListLaws.{first_at}
 use Rattle.lowering.proofs.LoweringStepLaws.{count_byte}
 use Rattle.lowering.proofs.crowded_at.Goals as goal
 
-pub loop-j-init : goal.loop-j-init
-loop-j-init c = (omega arith, count_start _)
+pub loop-last-init : goal.loop-last-init
+loop-last-init c = count_start _
 
 pub overflow_add-orders : goal.overflow_add-orders
 overflow_add-orders c =
+    let l = c.loop-last in
+    let i = l.last-index in
     let early = λ (m : ℕ). leb (at c.args.latest.now m) c.args.i in
-    omega (arith, c.loop-j.invariant.1, count_byte early c.loop-j.j, count_le early (c.loop-j.j + 1), c.requires.0)
+    let here = first_at c.args.n c.args.latest.now i (omega arith) in
+    rw here (omega (arith, l.invariant, count_byte early i, count_le early (i + 1), length-take c.args.n c.args.latest.now, c.requires.0))
 
-pub loop-j-preserved : goal.loop-j-preserved
-loop-j-preserved c =
+pub loop-last-preserved : goal.loop-last-preserved
+loop-last-preserved c =
+    let l = c.loop-last in
+    let i = l.last-index in
     let early = λ (m : ℕ). leb (at c.args.latest.now m) c.args.i in
-    (omega arith, omega (arith, c.loop-j.invariant.1, count_byte early c.loop-j.j))
+    let here = first_at c.args.n c.args.latest.now i (omega arith) in
+    rw here (omega (arith, l.invariant, count_byte early i))
