@@ -1,11 +1,13 @@
 -- Laws by which code is shown to test the rules of a schedule, and to find its pair. Assumes nothing.
 use Rattle.std.specs.Prelude.{◌≡◌, refl, Bool, true, ◌&&◌, ◌||◌, List, ℕ, zero, suc, ◌+◌, ◌-◌, ◌≤◌, ◌<◌, eqb, length, take}
-use Rattle.std.proofs.Common.{sym, ◌∙◌, add-one, arith, length-take-le, get_or-take, eq-eqb, ne_eqb}
+use Rattle.std.proofs.Common.{sym, ◌∙◌, add-one, arith, length-take-le, get_or-take, ext_get_or, eq-eqb, ne_eqb}
 use Rattle.std.proofs.Math.Path.{ap}
+use Rattle.std.specs.Bool as equality
+use Rattle.std.proofs.lemmas.Bool.Decides.{same_from_decides}
 use Rattle.std.proofs.Math.Dec.{leb}
 use Rattle.numbers.specs.Counting.{at, nth, row, count, every, each}
 use Rattle.numbers.specs.CountingLaws.{count_cong, every_more, every_same, every_same_below, table_at}
-use Rattle.numbers.specs.DecidesLaws.{decides_le, decides_eq, decides_and, decides_iff, decides_every, decides_each, numbered, test_true, same_test}
+use Rattle.numbers.specs.DecidesLaws.{Decides, decides_eq, decides_iff, decides_every, decides_each, numbered, test_true, test_means}
 use Rattle.model.specs.Sheet.{Paths, windows, timetable, Sheet}
 use Rattle.model.specs.Limits.{◌–◌, Inside, inside, last_instant, last_arrival}
 use Rattle.model.specs.Memory.{paths_by, sheet_of}
@@ -43,14 +45,23 @@ spaced_more gap departure (suc i) l =
 
 -- ---- the departures
 
--- of two columns neither is above the other exactly where they are the same
-pub each_same : (f g : ℕ → ℕ) (q : ℕ) → (each (λ i. leb (f i) (g i)) q && each (λ i. leb (g i) (f i)) q) ≡ each (λ i. eqb (f i) (g i)) q
-each_same f g q =
-    same_test _ _
-    (decides_iff (λ x i l m. let a = x.0 i l m in let b = x.1 i l m in omega (arith, a, b))
-    (λ e. (λ i l m. omega (arith, e i l m), λ i l m. omega (arith, e i l m)))
-    (decides_and (decides_each {P = λ i. f i ≤ g i} (λ i. decides_le (f i) (g i)) q) (decides_each {P = λ i. g i ≤ f i} (λ i. decides_le (g i) (f i)) q)))
-    (decides_each {P = λ i. f i ≡ g i} (λ i. decides_eq (f i) (g i)) q)
+-- the first q elements of two columns are one list exactly where each is the same
+pub same_by_number : (a b : List ℕ) (q : ℕ) → q ≤ length a → q ≤ length b → (r : Bool) → equality.Decides r (take q a ≡ take q b)
+    → r ≡ each (λ i. eqb (nth a i) (nth b i)) q
+same_by_number a b q l m r d =
+    same_from_decides r _ d (test_means each_decides, test_true each_decides)
+  where
+    one_list : take q a ≡ take q b → (i : ℕ) → 1 ≤ i → i ≤ q → nth a i ≡ nth b i
+    one_list e i u v = sym (get_or-take q a (i - 1) 0 (omega arith)) ∙ ap (λ (x : List ℕ). at x (i - 1)) e ∙ get_or-take q b (i - 1) 0 (omega arith)
+
+    by_number : ((i : ℕ) → 1 ≤ i → i ≤ q → nth a i ≡ nth b i) → take q a ≡ take q b
+    by_number h =
+        ext_get_or 0 (take q a) (take q b) (length-take-le q a l ∙ sym (length-take-le q b m))
+        (λ j k. let few : j < q = omega (arith, length-take-le q a l) in
+        get_or-take q a j 0 few ∙ sym (nth_at a j) ∙ h (suc j) (omega arith) (omega arith) ∙ nth_at b j ∙ sym (get_or-take q b j 0 few))
+
+    each_decides : Decides (take q a ≡ take q b) (each (λ i. eqb (nth a i) (nth b i)) q)
+    each_decides = decides_iff by_number one_list (decides_each {P = λ i. nth a i ≡ nth b i} (λ i. decides_eq (nth a i) (nth b i)) q)
 
 -- the form decides which departures are allowed
 pub allowed_by_form : (m : memory.Sheet) (q : ℕ) (S : ℕ → ℕ) (form : Form) → m.form ≡ form

@@ -6,7 +6,6 @@ ghost use Rattle.model.specs.Limits.{train_counts, window_counts};
 ghost use Rattle.model.specs.Admission.{Admitted};
 ghost use Rattle.model.specs.ScheduleTest.{allowed};
 
-use columns::none_above;
 use model::limits::{MOST_TRAINS, MOST_WINDOWS};
 use model::{Form, Sheet};
 
@@ -16,10 +15,8 @@ fn is_open(from: &[u32; MOST_WINDOWS], to: &[u32; MOST_WINDOWS], v: usize, t: u3
     ensures { result ≡ any (λ m. leb (nth from.now m) t && leb t (nth to.now m)) v }
 {
     let mut open = false;
-    let mut m: usize = 0;
-    while m < v {
+    for m in 0..v {
         open = ((from[m] <= t) & (t <= to[m])) | open;
-        m += 1;
     }
     open
 }
@@ -36,10 +33,8 @@ fn are_open(
     ensures { result ≡ each (λ i. any (λ m. leb (nth from m) (nth departure i) && leb (nth departure i) (nth to m)) v) q }
 {
     let mut open = true;
-    let mut i: usize = 0;
-    while i < q {
-        open = is_open(&from, &to, v, departure[i]) & open;
-        i += 1;
+    for &t in &departure[..q] {
+        open = is_open(&from, &to, v, t) & open;
     }
     open
 }
@@ -50,20 +45,18 @@ fn are_spaced(gap: u32, q: usize, departure: [u32; MOST_TRAINS]) -> bool
     ensures { result ≡ each (λ i. leb (nth departure i + gap) (nth departure (suc i))) (q - 1) }
 {
     let mut spaced = true;
-    let mut i: usize = 1;
-    while i < q {
+    for i in 1..q {
         spaced = ((departure[i - 1] as u64) + (gap as u64) <= (departure[i] as u64)) & spaced;
-        i += 1;
     }
     spaced
 }
 
-// Whether each of q departures is the fixed one: neither is above the other.
+// Whether each of q departures is the fixed one.
 fn are_fixed(q: usize, fixed: [u32; MOST_TRAINS], departure: [u32; MOST_TRAINS]) -> bool
     requires { q ≤ train_counts.most }
     ensures { result ≡ each (λ i. eqb (nth departure i) (nth fixed i)) q }
 {
-    none_above(q, departure, fixed) & none_above(q, fixed, departure)
+    departure[..q] == fixed[..q]
 }
 
 // Whether the departures are allowed, by the sheet's form.
@@ -79,17 +72,13 @@ pub fn first_are_allowed(sheet: Sheet, q: usize, departure: [u32; MOST_TRAINS]) 
     requires { Admitted (sheet_of sheet) × (q ≤ train_counts.most) }
     ensures { result ≡ allowed (sheet_of sheet).paths q (nth departure) }
 {
-    let form = sheet.form;
-    match form {
+    match sheet.form {
         Form::Windows => {
             let from = sheet.window_from;
             let to = sheet.window_to;
             let open = are_open(from, to, sheet.window_count, q, departure);
-            return open & are_spaced(sheet.gap, q, departure);
+            open & are_spaced(sheet.gap, q, departure)
         }
-        Form::Timetable => {
-            let fixed = sheet.departure;
-            return are_fixed(q, fixed, departure);
-        }
+        Form::Timetable => are_fixed(q, sheet.departure, departure),
     }
 }

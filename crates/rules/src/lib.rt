@@ -23,10 +23,8 @@ pub fn carried(train: &[u8; MOST_ORDERS], n: usize, i: u8) -> u32
     ensures { result ≡ count (λ j. eqb (at train.now j) i) n }
 {
     let mut orders: u32 = 0;
-    let mut j: usize = 0;
-    while j < n {
-        orders += (train[j] == i) as u32;
-        j += 1;
+    for &own in &train[..n] {
+        orders += (own == i) as u32;
     }
     orders
 }
@@ -37,10 +35,8 @@ pub fn have_room(n: usize, q: usize, capacity: [u32; MOST_TRAINS], train: [u8; M
     ensures { result ≡ each (λ i. leb (count (λ j. eqb (at train j) i) n) (nth capacity i)) q }
 {
     let mut room = true;
-    let mut i: usize = 0;
-    while i < q {
+    for i in 0..q {
         room = (carried(&train, n, (i + 1) as u8) <= capacity[i]) & room;
-        i += 1;
     }
     room
 }
@@ -50,10 +46,7 @@ fn is_released(release: u32, departure: &[u32; MOST_TRAINS], train: u8) -> bool
     requires { train ≤ train_counts.most }
     ensures { result ≡ (eqb train 0 || leb release (nth departure.now train)) }
 {
-    if train == 0 {
-        return true;
-    }
-    release <= of_train(departure, train)
+    train == 0 || release <= of_train(departure, train)
 }
 
 // Whether none of n orders that have a train is released after its departure.
@@ -67,10 +60,8 @@ pub fn are_released(
     ensures { result ≡ every (λ j. eqb (at train j) 0 || leb (at release j) (nth departure (at train j))) n }
 {
     let mut released = true;
-    let mut j: usize = 0;
-    while j < n {
+    for j in 0..n {
         released = is_released(release[j], &departure, train[j]) & released;
-        j += 1;
     }
     released
 }

@@ -5,9 +5,9 @@ use Rattle.rules.proofs.RulesLaws.{spaced_more}
 use Rattle.rules.proofs.departures.are_spaced.Goals as goal
 
 pub loop-i-init : goal.loop-i-init
-loop-i-init c = (omega arith, omega arith, every_start _)
+loop-i-init c = (omega arith, every_start _)
 
 pub loop-i-preserved : goal.loop-i-preserved
 loop-i-preserved c =
     let inv = c.loop-i.invariant in
-    (omega arith, omega arith, rw inv.2 (spaced_more c.args.gap c.args.departure c.loop-i.i inv.0))
+    (omega arith, rw inv.1 (spaced_more c.args.gap c.args.departure c.loop-i.i (omega arith)))

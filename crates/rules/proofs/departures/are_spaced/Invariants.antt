@@ -6,7 +6,4 @@ use Rattle.numbers.specs.Counting.{nth, every}
 use Rattle.rules.proofs.departures.are_spaced.Given as goal
 
 abbrev pub invariant-loop-i : goal.invariant-loop-i
-invariant-loop-i l = (1 ≤ l.i) × (l.i ≤ max l.q 1) × (l.spaced ≡ every (λ m. leb (nth l.departure (suc m) + l.gap) (nth l.departure (suc (suc m)))) (l.i - 1))
-
-abbrev pub decreases-loop-i : goal.decreases-loop-i
-decreases-loop-i l = l.q - l.i
+invariant-loop-i l = (l.i ≤ max l.q 1) × (l.spaced ≡ every (λ m. leb (nth l.departure (suc m) + l.gap) (nth l.departure (suc (suc m)))) (l.i - 1))
