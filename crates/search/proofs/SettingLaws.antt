@@ -1,5 +1,5 @@
 -- Laws of the columns that a search sets out from. Assumes nothing.
-use Rattle.std.specs.Prelude.{◌≡◌, refl, ℕ, zero, suc, ◌-◌, ◌≤◌, take, replicate}
+use Rattle.std.specs.Prelude.{◌≡◌, ℕ, suc, ◌-◌, ◌≤◌, take, replicate}
 use Rattle.std.proofs.Common.{arith}
 use Rattle.numbers.specs.Counting.{at, nth}
 use Rattle.numbers.specs.DecidesLaws.{decides_le}
@@ -15,14 +15,9 @@ use Rattle.rounds.specs.Outset.{ordinary}
 use Rattle.rounds.specs.SettingOut.{Sets}
 use Rattle.columns.specs.Columns.{UpTo}
 use Rattle.columns.proofs.ColumnLaws.{nth_at}
+use Rattle.timing.proofs.TimingStepLaws.{noughts}
 use Rattle.search.specs.Setting.{outset_of}
 use Rattle.search.specs.declared.Outset as memory
-
--- a column of noughts has 0 at every place, and beyond its end
-noughts : (k j : ℕ) → at (replicate k 0) j ≡ 0
-noughts zero j = refl
-noughts (suc k) zero = refl
-noughts (suc k) (suc j) = noughts k j
 
 module _ (m : sheet.Sheet) (a : Admitted (sheet_of m)) where
   -- the columns of the sheet alone: the sheet's places, the last train for every order, and noughts

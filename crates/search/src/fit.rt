@@ -16,14 +16,10 @@ pub fn fits(progress: Progress, sheet: Sheet) -> bool
 {
     let n = sheet.order_count;
     let q = sheet.train_count;
-    let latest = progress.latest;
-    if !none_above(n, &latest, q) {
-        return false;
-    }
-    let capacity = sheet.capacity;
-    let train = progress.train;
-    let orderly = are_orderly(n, q, &sheet.release, &capacity, &latest, &train);
-    let crowded = is_crowded(n, q, capacity, latest);
-    let most = bound::figure(sheet);
-    orderly & !crowded & (progress.rounds < most)
+    let latest = &progress.latest;
+    let train = &progress.train;
+    none_above(n, latest, q)
+        && are_orderly(n, q, &sheet.release, &sheet.capacity, latest, train)
+        && !is_crowded(n, q, sheet.capacity, *latest)
+        && progress.rounds < bound::figure(sheet)
 }

@@ -34,7 +34,7 @@ pub fn round_from(mut progress: Progress, sheet: Sheet, outset: Outset) -> Progr
     );
     let times = timing::time_trains_since(sheet, train, since);
     progress.better = false;
-    progress.rounds = progress.rounds + 1;
+    progress.rounds += 1;
     progress.ended = true;
     if let Some(timed) = times {
         let weight = sheet.weight;

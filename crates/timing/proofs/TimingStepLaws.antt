@@ -331,7 +331,7 @@ arrived_by_form m departure arrivals form is e =
 -- ---- no instant of its own
 
 -- a column of noughts has 0 at every place, and beyond its end
-noughts : (k j : ℕ) → at (replicate k 0) j ≡ 0
+pub noughts : (k j : ℕ) → at (replicate k 0) j ≡ 0
 noughts zero j = refl
 noughts (suc k) zero = refl
 noughts (suc k) (suc j) = noughts k j

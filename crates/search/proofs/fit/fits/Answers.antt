@@ -3,7 +3,7 @@ use native.Mathlib.Omega.{arith}
 use Rattle.model.proofs.MemoryLaws.{few_places}
 use Rattle.search.proofs.fit.fits.Goals as goal
 
-pub is_crowded-crowded-requires : goal.is_crowded-crowded-requires
-is_crowded-crowded-requires c =
+pub is_crowded-requires : goal.is_crowded-requires
+is_crowded-requires c =
     let a = c.requires in
     (a.few.orders, a.few.trains, few_places c.args.sheet a, omega (arith, a.roomy))
