@@ -13,6 +13,8 @@ use Rattle.model.specs.Foreign.{RowsFit, trains_told}
 use Rattle.model.specs.Refusal.{of_reply, number_of}
 use Rattle.model.specs.Admission.{Admitted}
 use Rattle.model.specs.declared.Row.{Row}
+use Rattle.model.proofs.ReplyLaws.{same_checked}
+use Rattle.model.specs.declared.Checked.{Checked}
 use Rattle.model.specs.Replies.{CheckReply}
 use Rattle.rounds.specs.ChosenPair.{Unbeaten}
 use Rattle.rounds.specs.Answers.{Answer, refused, given}
@@ -94,9 +96,18 @@ module _ (s : Sheet) (departure : List ℕ) (rows : List Row) (r : CheckReply) (
       go (refused f) u w = absurd (let e = y.is in let z : ◌≡◌ {A = ℕ} 0 1 = cc in omega arith)
       go (given v) u w =
           let e = y.is in
-          let last : v.pair.last ≡ y.pair.last = cc in
-          let worst : v.pair.worst ≡ y.pair.worst = cc in
-          let many : length v.listing.pairs ≡ y.pairs = cc in
+          let told_so : Checked =
+          record {
+            last = v.pair.last;
+            worst = v.pair.worst;
+            listed = v.is_listed;
+            pairs = length v.listing.pairs;
+            rounds = v.listing.rounds;
+          } in
+          let said_so : Checked =
+          record { last = y.pair.last; worst = y.pair.worst; listed = y.listed; pairs = y.pairs; rounds = y.rounds } in
+          let same = same_checked told_so said_so (sym w ∙ e) in
+          let many = same.pairs in
           let room = list_room s (length found) in
           let (granted, is) = accepted s room (check s departure rows) u in
           let (a, long) = passed s room granted in
@@ -107,8 +118,8 @@ module _ (s : Sheet) (departure : List ℕ) (rows : List Row) (r : CheckReply) (
             room = test_means (decides_list_room s found) long;
             verdict = v;
             is = is;
-            pair = same_pair last worst;
-            listed = cc;
+            pair = same_pair same.last same.worst;
+            listed = same.listed;
             list = ap (pairs_in y.pairs) here ∙ (ap (λ (k : ℕ). pairs_in k written) (sym many) ∙ pairs_read v.listing.pairs found);
             many = many;
           }

@@ -16,7 +16,8 @@ use Rattle.model.specs.Foreign.{rows_fit, trains_told}
 use Rattle.model.specs.Admission.{Admitted}
 use Rattle.model.specs.declared.Row.{Row}
 use Rattle.std.specs.Prelude.{Ok, Err}
-use Rattle.model.specs.Replies.{Admission, ListReply, CheckReply, checked_as}
+use Rattle.model.proofs.ReplyLaws.{same_chosen, same_listed}
+use Rattle.model.specs.Replies.{Admission, ListReply, CheckReply, checked_as, ChoiceReply}
 use Rattle.model.specs.declared.Refusal.{Refusal}
 use Rattle.model.specs.declared.Refusal.TheVariants.{WrongRows, RuleBroken}
 use Rattle.rounds.specs.Answers.{Answer, refused, given, Listing, list}
@@ -30,8 +31,6 @@ use Rattle.foreign.specs.Gathered.{gathered, column_fits}
 use Rattle.foreign.proofs.GatheredLaws.{fits_rows, column_told}
 use Rattle.foreign.specs.declared.Given.{Given}
 use Rattle.checker.specs.Judging.{kept, judged_so, pair_here, listed_in, InArea, beside_reply}
-use Rattle.checker.specs.declared.judging.Judgement.{Judgement}
-use Rattle.checker.specs.declared.judging.Judgement.TheVariants.{Broken}
 
 -- ---- tests 12 and 13, of what is gathered from rows
 
@@ -58,10 +57,10 @@ module _ (s : Sheet) (a : Admitted s) (departure : List ℕ) (rows : List Row) (
   fit_is : rows_fit s departure rows ≡ fit
   fit_is = rw (is, gives) (fits_rows s a.few.orders a.few.trains departure rows)
 
-  by_fit : (c : Bool) (x y : Judgement) → rows_fit s departure rows ≡ c → cond c x y ≡ cond (rows_fit s departure rows) x y
+  by_fit : (c : Bool) (x y : ChoiceReply) → rows_fit s departure rows ≡ c → cond c x y ≡ cond (rows_fit s departure rows) x y
   by_fit c x y u = ap (λ (t : Bool). cond t x y) (sym u)
 
-  pub wrong_rows : not fit ≡ true → Broken WrongRows ≡ judged_so s departure rows
+  pub wrong_rows : not fit ≡ true → Err WrongRows ≡ judged_so s departure rows
   unfolding judged_so
   wrong_rows f = by_fit false _ _ (fit_is ∙ not-true fit f)
 
@@ -79,12 +78,12 @@ module _ (s : Sheet) (a : Admitted s) (departure : List ℕ) (rows : List Row) (
     test_at : (t : Bool) → t ≡ is_schedule s (take s.orders g.train) (take s.trains column) → is_schedule s told departure ≡ t
     test_at t u = sym (u ∙ (ap (λ (x : List ℕ). is_schedule s x (take s.trains column)) trains ∙ ap (is_schedule s told) departures))
 
-    by_rules : (d : Bool) (x y z : Judgement) → is_schedule s told departure ≡ d
+    by_rules : (d : Bool) (x y z : ChoiceReply) → is_schedule s told departure ≡ d
         → cond d x y ≡ cond (rows_fit s departure rows) (cond (is_schedule s told departure) x y) z
     by_rules d x y z u = ap (λ (t : Bool). cond t x y) (sym u) ∙ by_fit true _ z (fit_is ∙ not-false fit f)
 
     pub rule_broken : (t : Bool) → t ≡ is_schedule s (take s.orders g.train) (take s.trains column) → not t ≡ true
-        → Broken RuleBroken ≡ judged_so s departure rows
+        → Err RuleBroken ≡ judged_so s departure rows
     unfolding judged_so
     rule_broken t u v = by_rules false _ _ _ (test_at t u ∙ not-true t v)
 
@@ -102,11 +101,11 @@ module _ (s : Sheet) (departure : List ℕ) (rows : List Row) where
   abbrev said : List ℕ
   said = trains_told s.orders rows
 
-  broken_means : (f : Refusal) → judged_so s departure rows ≡ Broken f → check s departure rows ≡ refused f
+  broken_means : (f : Refusal) → judged_so s departure rows ≡ Err f → check s departure rows ≡ refused f
   unfolding judged_so check judge
   broken_means f = go (rows_fit s departure rows) (is_schedule s said departure)
     where
-      go : (b c : Bool) → cond b (cond c (kept (pair_of s said departure)) (Broken RuleBroken)) (Broken WrongRows) ≡ Broken f
+      go : (b c : Bool) → cond b (cond c (kept (pair_of s said departure)) (Err RuleBroken)) (Err WrongRows) ≡ Err f
           → cond b (cond c (beside (pair_of s said departure) (list s)) (refused RuleBroken)) (refused WrongRows) ≡ refused f
       go true true e = absurd (let z : ◌≡◌ {A = ℕ} 0 1 = cc in omega arith)
       go true false e = let same : RuleBroken ≡ f = cc in ap refused same
@@ -117,9 +116,9 @@ module _ (s : Sheet) (departure : List ℕ) (rows : List Row) where
   kept_means p = go (rows_fit s departure rows) (is_schedule s said departure)
     where
       same_pair_is : (x : Pair) → kept x ≡ kept p → x ≡ p
-      same_pair_is x e = let u : x.last ≡ p.last = cc in let v : x.worst ≡ p.worst = cc in rw (u, v) refl
+      same_pair_is x e = let (u, v) = same_chosen (record { last = x.last; worst = x.worst }) (record { last = p.last; worst = p.worst }) e in rw (u, v) refl
 
-      go : (b c : Bool) → cond b (cond c (kept (pair_of s said departure)) (Broken RuleBroken)) (Broken WrongRows) ≡ kept p
+      go : (b c : Bool) → cond b (cond c (kept (pair_of s said departure)) (Err RuleBroken)) (Err WrongRows) ≡ kept p
           → cond b (cond c (beside (pair_of s said departure) (list s)) (refused RuleBroken)) (refused WrongRows) ≡ beside p (list s)
       go true true e = ap (λ (x : Pair). beside x (list s)) (same_pair_is (pair_of s said departure) e)
       go true false e = absurd (let z : ◌≡◌ {A = ℕ} 0 1 = cc in omega arith)
@@ -156,7 +155,7 @@ module _ (s : Sheet) (departure : List ℕ) (rows : List Row) (lent : List ℤ) 
   unfolding check_to check_reply check_left
   told_refused f e = told_first check_reply check_left s room (check s departure rows) lent t is f e refl
 
-  pub told_broken : t ≡ Ok tt → (f : Refusal) → judged_so s departure rows ≡ Broken f
+  pub told_broken : t ≡ Ok tt → (f : Refusal) → judged_so s departure rows ≡ Err f
       → CheckTold (check_to s departure rows lent) (Err f) lent lent
   unfolding check_to check_reply check_left
   told_broken e f b =
@@ -182,5 +181,6 @@ in_area s lent r left told pairs rounds e = go (list_to s lent) told.replied tol
     go : (x : Answer Listing) → r ≡ list_reply x → left ≡ list_left x lent → numbers_a_pair * pairs ≤ length left
     go (refused f) u v = absurd (let z : ◌≡◌ {A = ℕ} 0 1 = cc in omega arith)
     go (given l) u v =
-        let many : pairs ≡ length l.pairs = cc in
+        let (many, made) =
+        same_listed (record { pairs = pairs; rounds = rounds }) (record { pairs = length l.pairs; rounds = l.rounds }) (sym e ∙ u) in
         rw v (omega (arith, many, pair_numbers_length l.pairs, length-append (pair_numbers l.pairs) (drop (length (pair_numbers l.pairs)) lent)))

@@ -58,7 +58,3 @@ pub record CheckingCall (s : Sheet) (departure : List ℕ) (rows : List Row) (r 
   -- "A number added later returns 0 and changes nothing lent", as do the others
   pub returns_zero : returned_of (of_reply r) ≡ 0
   pub as_found : 1 ≤ number_of (of_reply r) → left ≡ found
-
--- what holds of whatever rows were gathered so
-abbrev pub CheckedOf : Given → (List Row → Type 0) → Type 0
-CheckedOf given P = (rows : List Row) → given ≡ gathered rows (length rows) → P rows

@@ -8,21 +8,19 @@ use Rattle.model.specs.ScheduleTest.{is_schedule}
 use Rattle.model.specs.Foreign.{rows_fit, trains_told}
 use Rattle.model.specs.declared.Row.{Row}
 use Rattle.model.specs.declared.Refusal.TheVariants.{WrongRows, RuleBroken}
-use Rattle.std.specs.Prelude.{Err}
-use Rattle.model.specs.Replies.{ListReply, CheckReply, listed_as, checked_as}
-use Rattle.checker.specs.declared.judging.Judgement.{Judgement}
-use Rattle.checker.specs.declared.judging.Judgement.TheVariants.{Kept, Broken}
+use Rattle.std.specs.Prelude.{Ok, Err}
+use Rattle.model.specs.Replies.{ListReply, ChoiceReply, CheckReply, listed_as, chosen_as, checked_as}
 
 -- a pair as it is told
-abbrev pub kept : Pair → Judgement
-kept p = Kept p.last p.worst
+abbrev pub kept : Pair → ChoiceReply
+kept p = chosen_as p.last p.worst
 
 -- 12, then 13, else the plan's pair
-unfoldable pub judged_so : Sheet → (departure : List ℕ) → List Row → Judgement
+unfoldable pub judged_so : Sheet → (departure : List ℕ) → List Row → ChoiceReply
 unfolding rows_fit trains_told is_schedule greatest_lateness
 judged_so s departure rows =
     let train : List ℕ = trains_told s.orders rows in
-    cond (rows_fit s departure rows) (cond (is_schedule s train departure) (kept (pair_of s train departure)) (Broken RuleBroken)) (Broken WrongRows)
+    cond (rows_fit s departure rows) (cond (is_schedule s train departure) (kept (pair_of s train departure)) (Err RuleBroken)) (Err WrongRows)
 
 -- pair k of an area is this one
 abbrev pub pair_here : List ℤ → (last : ℕ) (worst : ℤ) → ℕ → Bool

@@ -4,7 +4,7 @@ ghost use Rattle.model.specs.Limits.{numbers_a_pair};
 ghost use Rattle.checker.specs.Judging.{listed_in, InArea, beside_reply};
 
 use model::limits::NUMBERS_A_PAIR;
-use model::{Checked, Listed, Refusal};
+use model::{Checked, Listed, PlanPair, Refusal};
 
 // Whether the pair is one of the first in the area.
 fn is_listed(pairs: &[i64], count: usize, last: u32, worst: i64) -> bool
@@ -25,26 +25,20 @@ fn is_listed(pairs: &[i64], count: usize, last: u32, worst: i64) -> bool
 }
 
 // What is told of the pair and the list's reply.
-pub fn beside(reply: Result<Listed, Refusal>, last: u32, worst: i64, pairs: &[i64]) -> Result<Checked, Refusal>
+pub fn beside(
+    reply: Result<Listed, Refusal>,
+    pair: PlanPair,
+    pairs: &[i64],
+) -> Result<Checked, Refusal>
     requires { InArea reply pairs.now }
-    ensures { result ≡ beside_reply reply last worst pairs.now }
+    ensures { result ≡ beside_reply reply pair.last pair.worst pairs.now }
 {
-    match reply {
-        Err(refusal) => {
-            return Err(refusal);
-        }
-        ListReply::Listed {
-            pairs: count,
-            rounds,
-        } => {
-            let listed = is_listed(pairs, count, last, worst);
-            return CheckReply::Checked {
-                last: last,
-                worst: worst,
-                listed: listed,
-                pairs: count,
-                rounds: rounds,
-            };
-        }
-    }
+    let list = reply?;
+    Ok(Checked {
+        last: pair.last,
+        worst: pair.worst,
+        listed: is_listed(pairs, list.pairs, pair.last, pair.worst),
+        pairs: list.pairs,
+        rounds: list.rounds,
+    })
 }

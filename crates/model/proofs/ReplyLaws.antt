@@ -11,3 +11,19 @@ same_listed l m e = let same : l ≡ m = cc in (ap (λ (x : Listed). x.pairs) sa
 
 pub same_chosen : (p q : PlanPair) → ◌≡◌ {A = ChoiceReply} (Ok p) (Ok q) → (p.last ≡ q.last) × (p.worst ≡ q.worst)
 same_chosen p q e = let same : p ≡ q = cc in (ap (λ (x : PlanPair). x.last) same, ap (λ (x : PlanPair). x.worst) same)
+
+pub record SameChecked (v w : Checked) : Type 0 where
+  pub last : v.last ≡ w.last
+  pub worst : v.worst ≡ w.worst
+  pub listed : v.listed ≡ w.listed
+  pub pairs : v.pairs ≡ w.pairs
+
+pub same_checked : (v w : Checked) → ◌≡◌ {A = CheckReply} (Ok v) (Ok w) → SameChecked v w
+same_checked v w e =
+    let same : v ≡ w = cc in
+    record {
+      last = ap (λ (x : Checked). x.last) same;
+      worst = ap (λ (x : Checked). x.worst) same;
+      listed = ap (λ (x : Checked). x.listed) same;
+      pairs = ap (λ (x : Checked). x.pairs) same;
+    }

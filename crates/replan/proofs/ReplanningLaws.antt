@@ -1,11 +1,12 @@
 -- What the calls tell, test by test. Assumes nothing.
 use Rattle.std.specs.Prelude.{◌≡◌, List, ℕ, ℤ, length}
-use Rattle.std.proofs.Math.Path.{refl, sym}
+use Rattle.std.proofs.Math.Path.{refl, sym, ap}
 use Rattle.std.proofs.Common.{◌∙◌}
 use Rattle.model.specs.Sheet.{Sheet}
 use Rattle.model.specs.Memory.{sheet_of}
 use Rattle.model.specs.Gone.{Gone}
-use Rattle.std.specs.Prelude.{Ok, Err}
+use Rattle.std.specs.Prelude.{Result, Ok, Err}
+use Rattle.model.specs.Refusal.{of_reply}
 use Rattle.model.specs.Replies.{Admission, ListReply, ChoiceReply}
 use Rattle.model.specs.declared.Refusal.{Refusal}
 use Rattle.model.specs.declared.Sheet as memory
@@ -16,10 +17,10 @@ use Rattle.rounds.proofs.SameOutsetLaws.{list_same, choose_same}
 use Rattle.rounds.specs.Told.{ListTold, ChoiceTold}
 use Rattle.room.proofs.CallLaws.{told_first, told_then}
 use Rattle.search.specs.Setting.{outset_of}
+use Rattle.search.specs.declared.Outset.{Outset}
 use Rattle.planner.proofs.RunningLaws.{told_as}
 use Rattle.gone.specs.Ready.{SetOut}
 use Rattle.gone.proofs.ReadyLaws.{gone_refused, gone_granted}
-use Rattle.gone.specs.declared.Ready.{Ready}
 use Rattle.replan.specs.Relisting.{RelistingCall}
 use Rattle.replan.specs.Rechoosing.{RechoosingCall}
 use Rattle.replan.proofs.ContractLaws.{listing_call, choosing_call}
@@ -36,25 +37,25 @@ module _ (m : memory.Sheet) (g : Gone) where
     list_refused f e =
         listing_call s g (Err f) lent lent (told_first list_reply list_left s (list_room s (length lent)) (relist s g) lent t is f e refl)
 
-    module _ (e : t ≡ Ok tt) (ready : Ready) (out : SetOut m g ready) where
+    module _ (e : t ≡ Ok tt) (ready : Result Outset Refusal) (out : SetOut m g ready) where
       then : (r : ListReply) (left : List ℤ) → ListTold (relist s g) r left lent → RelistingCall s g r left lent
       unfolding relist_to
       then r left h =
           listing_call s g r left lent (told_then list_reply list_left s (list_room s (length lent)) (relist s g) lent t is e r left h)
 
-      pub list_gone : (f : Refusal) → ready.admission ≡ Err f → RelistingCall s g (Err f) lent lent
+      pub list_gone : (f : Refusal) → ready ≡ Err f → RelistingCall s g (Err f) lent lent
       unfolding relist list_reply list_left
       list_gone f u =
           then (Err f) lent
-          (told_as {x = refused f} (sym (gone_refused s g (list_from s (behind s g)) f (sym out.is ∙ u))) (record { replied = refl; areas_left = refl }))
+          (told_as {x = refused f} (sym (gone_refused s g (list_from s (behind s g)) f (sym out.is ∙ ap of_reply u))) (record { replied = refl; areas_left = refl }))
 
-      pub list_rounds : ready.admission ≡ Ok tt → (r : ListReply) (left : List ℤ)
-          → ListTold (list_from s (outset_of m.order_count ready.outset)) r left lent → RelistingCall s g r left lent
+      pub list_rounds : (o : Outset) → ready ≡ Ok o → (r : ListReply) (left : List ℤ)
+          → ListTold (list_from s (outset_of m.order_count o)) r left lent → RelistingCall s g r left lent
       unfolding relist
-      list_rounds u r left h =
+      list_rounds o u r left h =
           then r left
-          (told_as (list_same s (outset_of m.order_count ready.outset) (behind s g) (out.columns u)
-          ∙ sym (gone_granted s g (list_from s (behind s g)) (sym out.is ∙ u))) h)
+          (told_as (list_same s (outset_of m.order_count o) (behind s g) (out.columns o u)
+          ∙ sym (gone_granted s g (list_from s (behind s g)) (sym out.is ∙ ap of_reply u))) h)
 
   -- ---- choosing
 
@@ -65,24 +66,24 @@ module _ (m : memory.Sheet) (g : Gone) where
         choosing_call s g wish (Err f) lent lent
         (told_first choice_reply (plan_left s) s (plan_room s (length lent.trains) (length lent.times)) (rechoose s g wish) lent t is f e refl)
 
-    module _ (e : t ≡ Ok tt) (ready : Ready) (out : SetOut m g ready) where
+    module _ (e : t ≡ Ok tt) (ready : Result Outset Refusal) (out : SetOut m g ready) where
       then_chosen : (r : ChoiceReply) (left : PlanAreas) → ChoiceTold s (rechoose s g wish) r left lent → RechoosingCall s g wish r left lent
       unfolding rechoose_to
       then_chosen r left h =
           choosing_call s g wish r left lent
           (told_then choice_reply (plan_left s) s (plan_room s (length lent.trains) (length lent.times)) (rechoose s g wish) lent t is e r left h)
 
-      pub choice_gone : (f : Refusal) → ready.admission ≡ Err f → RechoosingCall s g wish (Err f) lent lent
+      pub choice_gone : (f : Refusal) → ready ≡ Err f → RechoosingCall s g wish (Err f) lent lent
       unfolding rechoose choice_reply plan_left
       choice_gone f u =
           then_chosen (Err f) lent
-          (told_as {x = refused f} (sym (gone_refused s g (choose_from s (behind s g) wish) f (sym out.is ∙ u)))
+          (told_as {x = refused f} (sym (gone_refused s g (choose_from s (behind s g) wish) f (sym out.is ∙ ap of_reply u)))
           (record { replied = refl; areas_left = refl }))
 
-      pub choice_rounds : ready.admission ≡ Ok tt → (r : ChoiceReply) (left : PlanAreas)
-          → ChoiceTold s (choose_from s (outset_of m.order_count ready.outset) wish) r left lent → RechoosingCall s g wish r left lent
+      pub choice_rounds : (o : Outset) → ready ≡ Ok o → (r : ChoiceReply) (left : PlanAreas)
+          → ChoiceTold s (choose_from s (outset_of m.order_count o) wish) r left lent → RechoosingCall s g wish r left lent
       unfolding rechoose
-      choice_rounds u r left h =
+      choice_rounds o u r left h =
           then_chosen r left
-          (told_as (choose_same s (outset_of m.order_count ready.outset) (behind s g) (out.columns u) wish
-          ∙ sym (gone_granted s g (choose_from s (behind s g) wish) (sym out.is ∙ u))) h)
+          (told_as (choose_same s (outset_of m.order_count o) (behind s g) (out.columns o u) wish
+          ∙ sym (gone_granted s g (choose_from s (behind s g) wish) (sym out.is ∙ ap of_reply u))) h)

@@ -9,6 +9,7 @@ ghost use Rattle.gone.specs.GonePart.{gone_part};
 ghost use Rattle.replan.specs.Relisting.{RelistingCall, RelistedAt};
 ghost use Rattle.replan.specs.Rechoosing.{RechoosingCall, RechosenAt};
 
+use borders::AnySheet;
 use choosing::choose_from;
 use foreign::{Given, gather};
 use gone::set_out;
@@ -34,16 +35,8 @@ fn relist(
     ensures { OfRows given (λ rows. RelistingCall (sheet_of sheet) (gone_part departures.now rows minute) result
         pairs.new pairs.old) }
 {
-    let tested = room::for_listing(sheet, pairs.len());
-    if let Err(refusal) = tested {
-        return Err(refusal);
-    }
-    let ready = set_out(sheet, departures, given, minute);
-    let admission = ready.admission;
-    if let Err(refusal) = admission {
-        return Err(refusal);
-    }
-    let outset = ready.outset;
+    room::for_listing(sheet, pairs.len())?;
+    let outset = set_out(sheet, departures, given, minute)?;
     list_from(sheet, outset, pairs)
 }
 
@@ -60,16 +53,8 @@ fn rechoose(
     ensures { OfRows given (λ rows. RechoosingCall (sheet_of sheet) (gone_part departures.now rows minute) wish result
         (areas train_of_order.new times.new) (areas train_of_order.old times.old)) }
 {
-    let tested = room::for_choosing(sheet, train_of_order.len(), times.len());
-    if let Err(refusal) = tested {
-        return Err(refusal);
-    }
-    let ready = set_out(sheet, departures, given, minute);
-    let admission = ready.admission;
-    if let Err(refusal) = admission {
-        return Err(refusal);
-    }
-    let outset = ready.outset;
+    room::for_choosing(sheet, train_of_order.len(), times.len())?;
+    let outset = set_out(sheet, departures, given, minute)?;
     choose_from(sheet, outset, wish, train_of_order, times)
 }
 
@@ -82,14 +67,8 @@ pub fn relist_gathered(
 ) -> Result<Listed, Refusal>
     ensures { OfRows given (λ rows. RelistedAt at departures.now rows result pairs.new pairs.old) }
 {
-    let sheet = at.sheet;
-    relist(
-        borders::from_windows(sheet),
-        at.minute,
-        departures,
-        given,
-        pairs,
-    )
+    let sheet = at.sheet.to_sheet();
+    relist(sheet, at.minute, departures, given, pairs)
 }
 
 // Chooses for a sheet at a minute, where the rows are gathered.
@@ -104,9 +83,9 @@ pub fn rechoose_gathered(
     ensures { OfRows given (λ rows. RechosenAt at wish departures.now rows result
         (areas train_of_order.new times.new) (areas train_of_order.old times.old)) }
 {
-    let sheet = at.sheet;
+    let sheet = at.sheet.to_sheet();
     rechoose(
-        borders::from_windows(sheet),
+        sheet,
         at.minute,
         wish,
         departures,

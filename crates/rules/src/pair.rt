@@ -8,15 +8,8 @@ ghost use Rattle.rules.specs.Rules.{pair_told};
 
 use columns::last_of;
 use lowering::lateness::worst_of;
-use model::Sheet;
+use model::{PlanPair, Sheet};
 use model::limits::{MOST_ORDERS, MOST_TRAINS};
-
-// A last arrival and a worst weighted lateness.
-#[derive(Clone, Copy)]
-pub struct PlanPair {
-    pub last: u32,
-    pub worst: i64,
-}
 
 // The last arrival, by the model's rule, and the greatest weighted lateness of a schedule in columns.
 pub fn pair_of(sheet: Sheet, train: [u8; MOST_ORDERS], departure: [u32; MOST_TRAINS]) -> PlanPair

@@ -1,11 +1,11 @@
 -- From what the code of a call knows to the call's contract. Assumes nothing.
-use Rattle.std.specs.Prelude.{◌≡◌, List, ℕ, ◌*◌, ◌≤◌, ℤ, length}
-use Rattle.std.proofs.Math.Path.{refl, sym, ap}
+use Rattle.std.specs.Prelude.{◌≡◌, List, ℕ, ◌*◌, ◌≤◌, ◌<◌, ℤ, length}
+use Rattle.std.proofs.Math.Path.{refl, sym, ap, subst}
 use Rattle.std.proofs.Common.{◌∙◌, arith}
 use Rattle.numbers.specs.Over.{over}
-use Rattle.model.specs.Sheet.{Sheet}
+use Rattle.model.specs.Sheet.{Sheet, places}
 use Rattle.model.specs.Limits.{numbers_a_pair}
-use Rattle.model.specs.Refusal.{number_of}
+use Rattle.model.specs.Refusal.{number_of, returned_of}
 use Rattle.std.specs.Prelude.{Ok, Err}
 use Rattle.model.specs.Replies.{Admission}
 use Rattle.model.specs.declared.Refusal.{Refusal}
@@ -20,20 +20,16 @@ use Rattle.search.specs.declared.Progress.{Progress}
 use Rattle.room.proofs.CallLaws.{admitted, has_room}
 use Rattle.planner.specs.InAreas.{pairs_in}
 use Rattle.planner.proofs.InAreasLaws.{pairs_read}
-use Rattle.watch.specs.State.{no_state, state_of}
+use Rattle.watch.specs.State.{state_of}
 use Rattle.watch.proofs.StateLaws.{shows_kept}
 use Rattle.watch.specs.LeftBy.{LeftBy}
 use Rattle.watch.proofs.FitLaws.{left_fits}
 use Rattle.watch.specs.Calls.{StartCall, LookCall}
 use Rattle.watch.specs.declared.State.{State}
-use Rattle.watch.specs.declared.Started.{Started}
 
 -- ---- a start
 
 module _ (s : Sheet) (lent : SearchAreas) (t : Admission) (is : t ≡ start_to s lent) where
-  abbrev start_gives : State → Started
-  start_gives x = record { admission = t; state = x }
-
   -- before the first round nothing is recorded, and the areas are as lent
   areas_begun : lent ≡ areas_by s (start s) lent
   unfolding areas_by start_from last_plan plan_left listed pair_numbers
@@ -50,28 +46,26 @@ module _ (s : Sheet) (lent : SearchAreas) (t : Admission) (is : t ≡ start_to s
         areas_are = areas_begun;
       }
 
-  pub start_granted : t ≡ Ok tt → (p : Progress) → Shows s p (start s) → StartCall s lent (start_gives (state_of p 0))
+  pub start_granted : t ≡ Ok tt → (p : Progress) → Shows s p (start s) → StartCall s lent (Ok (state_of p 0))
   start_granted e p shows =
       let refuses = start_refuses s lent in
       record {
-        equal = is;
-        begins = λ u. left_begun u p shows;
-        beside = λ l. absurd (omega (arith, l, ap number_of e));
-        no_eight = rw is refuses.no_eight;
-        returns_zero = rw is refuses.as_any.returns_zero;
-        seven = rw is refuses.as_any.seven;
+        equal = sym e ∙ is;
+        begins = λ x u. let same : state_of p 0 ≡ x = cc in rw (← same) (left_begun e p shows);
+        no_eight = subst (λ (x : Admission). ¬ (number_of x ≡ 8)) (sym is ∙ e) refuses.no_eight;
+        returns_zero = subst (λ (x : Admission). returned_of x ≡ 0) (sym is ∙ e) refuses.as_any.returns_zero;
+        seven = subst (λ (x : Admission). number_of x ≡ 7 → places s.capacity s.trains < s.orders) (sym is ∙ e) refuses.as_any.seven;
       }
 
-  pub start_refused : (f : Refusal) → t ≡ Err f → StartCall s lent (start_gives no_state)
+  pub start_refused : (f : Refusal) → t ≡ Err f → StartCall s lent (Err f)
   start_refused f e =
       let refuses = start_refuses s lent in
       record {
-        equal = is;
-        begins = λ u. absurd (let z : ◌≡◌ {A = ℕ} 0 1 = cc in omega arith);
-        beside = λ l. refl;
-        no_eight = rw is refuses.no_eight;
-        returns_zero = rw is refuses.as_any.returns_zero;
-        seven = rw is refuses.as_any.seven;
+        equal = sym e ∙ is;
+        begins = λ x u. absurd (let z : ◌≡◌ {A = ℕ} 0 1 = cc in omega arith);
+        no_eight = subst (λ (x : Admission). ¬ (number_of x ≡ 8)) (sym is ∙ e) refuses.no_eight;
+        returns_zero = subst (λ (x : Admission). returned_of x ≡ 0) (sym is ∙ e) refuses.as_any.returns_zero;
+        seven = subst (λ (x : Admission). number_of x ≡ 7 → places s.capacity s.trains < s.orders) (sym is ∙ e) refuses.as_any.seven;
       }
 
 -- ---- a look

@@ -2,7 +2,7 @@
 use Rattle.std.specs.Prelude.{◌≡◌, ℕ, ◌≤◌}
 use Rattle.model.specs.Sheet.{Sheet}
 use Rattle.model.specs.Schedule.{Schedule}
-use Rattle.std.specs.Prelude.{Ok}
+use Rattle.std.specs.Prelude.{Result, Ok}
 use Rattle.model.specs.declared.RoundReply.TheVariants.{GoesOn}
 use Rattle.rounds.specs.Recording.{listed}
 use Rattle.rounds.specs.Prompt.{Prompt}
@@ -14,13 +14,13 @@ use Rattle.rounds.specs.ByRound.{SearchAreas, Calls, started, then_round, then_l
 use Rattle.planner.specs.InAreas.{pairs_in, plan_in}
 use Rattle.watch.specs.Calls.{StartCall, RoundCall, LookCall}
 use Rattle.watch.specs.declared.State.{State}
-use Rattle.watch.specs.declared.Started.{Started}
+use Rattle.model.specs.declared.Refusal.{Refusal}
 use Rattle.watch.specs.declared.Moved.{Moved}
 
 -- calls that were made, each by its contract: "each of its calls is given the same ones and the state that the call before gave back". The state and the areas
 -- are those after the last one.
 pub data Made (s : Sheet) (lent : SearchAreas) : Calls → State → SearchAreas → Type 0 where
-  starts : {r : Started} → StartCall s lent r → r.admission ≡ Ok tt → Made s lent started r.state lent
+  starts : {r : Result State Refusal} → StartCall s lent r → {x : State} → r ≡ Ok x → Made s lent started x lent
   moves : {calls : Calls} {state : State} {found left : SearchAreas} {r : Moved} → Made s lent calls state found → RoundCall s state r left found
       → Made s lent (then_round calls) r.state left
   looks : {calls : Calls} {state : State} {found : SearchAreas} {count : ℕ} → Made s lent calls state found → LookCall state found.pairs count

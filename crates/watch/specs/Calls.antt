@@ -1,33 +1,30 @@
 -- THE CONTRACTS OF THE THREE CALLS of a search that is watched, on the sheet s. A start and a look are lent the areas to be read: they can change nothing.
-use Rattle.std.specs.Prelude.{◌≡◌, ◌⊎◌, List, ℕ, ◌*◌, ◌≤◌, ◌<◌, ℤ, length}
+use Rattle.std.specs.Prelude.{◌≡◌, ◌⊎◌, List, ℕ, ◌*◌, ◌≤◌, ◌<◌, ℤ, length, Result, Ok}
 use Rattle.model.specs.Sheet.{Sheet, places}
 use Rattle.model.specs.Schedule.{Schedule}
 use Rattle.model.specs.Limits.{numbers_a_pair}
-use Rattle.model.specs.Refusal.{of_round, number_of, returned_of}
-use Rattle.std.specs.Prelude.{Ok}
+use Rattle.model.specs.Refusal.{of_reply, of_round, number_of, returned_of}
+use Rattle.model.specs.declared.Refusal.{Refusal}
 use Rattle.model.specs.declared.RoundReply.TheVariants.{Ended}
 use Rattle.rounds.specs.Prompt.{Prompt}
 use Rattle.rounds.specs.ByRound.{SearchAreas, start_to, Calls, started, then_round, search_by, seen, said}
 use Rattle.planner.specs.InAreas.{pairs_in, plan_in}
-use Rattle.watch.specs.State.{no_state}
 use Rattle.watch.specs.LeftBy.{LeftBy}
 use Rattle.watch.specs.declared.State.{State}
-use Rattle.watch.specs.declared.Started.{Started}
 use Rattle.watch.specs.declared.Moved.{Moved}
 
 -- ---- a start, with these areas
 
-pub record StartCall (s : Sheet) (lent : SearchAreas) (r : Started) : Type 0 where
+pub record StartCall (s : Sheet) (lent : SearchAreas) (r : Result State Refusal) : Type 0 where
   -- "The start alone gives the refusals up to 10, for all three areas."
-  pub equal : r.admission ≡ start_to s lent
+  pub equal : of_reply r ≡ start_to s lent
   -- an accepted one gives the state before the first round
-  pub begins : r.admission ≡ Ok tt → LeftBy s lent started r.state lent
+  pub begins : (x : State) → r ≡ Ok x → LeftBy s lent started x lent
   -- a refused one gives none, and never 8
-  pub beside : 1 ≤ number_of r.admission → r.state ≡ no_state
-  pub no_eight : ¬ (number_of r.admission ≡ 8)
-  pub returns_zero : returned_of r.admission ≡ 0
+  pub no_eight : ¬ (number_of (of_reply r) ≡ 8)
+  pub returns_zero : returned_of (of_reply r) ≡ 0
   -- document 02, No. 5: "refusal 7 is given only if the capacities add up to less than n"
-  pub seven : number_of r.admission ≡ 7 → places s.capacity s.trains < s.orders
+  pub seven : number_of (of_reply r) ≡ 7 → places s.capacity s.trains < s.orders
 
 -- ---- a round call, given this state, with the areas as left and as found
 

@@ -8,8 +8,8 @@ pub mod look;
 pub mod round;
 pub mod start;
 
+use model::RoundReply;
 use model::limits::MOST_ORDERS;
-use model::{Refusal, RoundReply};
 
 // Where a search stands between two calls, laid out as in C: how many pairs are recorded and how many rounds were made, the limit, the last arrival of the pair
 // recorded last, whether the search has ended (not 0), each order's train in the last round (0 for none), and its latest train. Any numbers may stand in it.
@@ -23,13 +23,6 @@ pub struct State {
     pub ended: u8,
     pub train: [u8; MOST_ORDERS],
     pub latest: [u8; MOST_ORDERS],
-}
-
-// What a start gives: the state, or the refusal beside noughts.
-#[derive(Clone, Copy)]
-pub struct Started {
-    pub admission: Result<(), Refusal>,
-    pub state: State,
 }
 
 // What a round call gives: the next state, and whether the search goes on.

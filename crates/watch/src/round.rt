@@ -1,6 +1,6 @@
 // One round a call.
 ghost use Rattle.std.specs.Prelude.{◌≡◌, length};
-ghost use Rattle.model.specs.Memory.{sheet_of, window_sheet, timetable_sheet};
+ghost use Rattle.model.specs.Memory.{sheet_of};
 ghost use Rattle.rounds.specs.ByRound.{all_areas};
 ghost use Rattle.watch.specs.Fit.{Fits};
 ghost use Rattle.watch.specs.Calls.{RoundCall};
@@ -9,7 +9,8 @@ ghost use Rattle.watch.specs.Advance.{Advanced};
 use crate::fit::fits;
 use crate::keeping::{keep, resume, said};
 use crate::{Moved, State};
-use model::{RoundReply, Sheet, TimetableSheet, WindowSheet};
+use borders::AnySheet;
+use model::{RoundReply, Sheet};
 use recording::{list_pair, put_times, put_trains};
 
 // Makes one round of a search that goes on. A better plan's pair is listed, and the plan is written over the one before.
@@ -45,18 +46,19 @@ fn advance(
     keep(progress, count)
 }
 
-// Moves a search on a sheet of either form by one round; an ended one stays as it is and is told again. A state that is not one of a search of this sheet in
-// these areas is told as ended with no pair after no round, and nothing is changed.
-pub fn round(
+// Moves a search on a sheet by one round; an ended one stays as it is and is told again. A state that is not one of a search of this sheet in these areas is
+// told as ended with no pair after no round, and nothing is changed.
+pub fn round<S: AnySheet>(
     state: State,
-    sheet: Sheet,
+    sheet: S,
     pairs: &mut [i64],
     train_of_order: &mut [u8],
     times: &mut [u32],
 ) -> Moved
-    ensures { RoundCall (sheet_of sheet) state result (all_areas pairs.new train_of_order.new times.new)
+    ensures { RoundCall (S.meant sheet) state result (all_areas pairs.new train_of_order.new times.new)
         (all_areas pairs.old train_of_order.old times.old) }
 {
+    let sheet = sheet.to_sheet();
     if !fits(state, sheet, pairs.len(), train_of_order.len(), times.len()) {
         return Moved {
             state,
@@ -77,44 +79,4 @@ pub fn round(
         state: next,
         reply: said(next),
     }
-}
-
-// Moves a search on a sheet of the window form.
-pub fn round_windows(
-    state: State,
-    sheet: WindowSheet,
-    pairs: &mut [i64],
-    train_of_order: &mut [u8],
-    times: &mut [u32],
-) -> Moved
-    ensures { RoundCall (window_sheet sheet) state result (all_areas pairs.new train_of_order.new times.new)
-        (all_areas pairs.old train_of_order.old times.old) }
-{
-    round(
-        state,
-        borders::from_windows(sheet),
-        pairs,
-        train_of_order,
-        times,
-    )
-}
-
-// Moves a search on a sheet of the timetable form.
-pub fn round_timetable(
-    state: State,
-    sheet: TimetableSheet,
-    pairs: &mut [i64],
-    train_of_order: &mut [u8],
-    times: &mut [u32],
-) -> Moved
-    ensures { RoundCall (timetable_sheet sheet) state result (all_areas pairs.new train_of_order.new times.new)
-        (all_areas pairs.old train_of_order.old times.old) }
-{
-    round(
-        state,
-        borders::from_timetable(sheet),
-        pairs,
-        train_of_order,
-        times,
-    )
 }

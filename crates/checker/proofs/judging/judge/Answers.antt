@@ -1,6 +1,5 @@
 -- `checker::judging::judge` meets its contract: each return is that of the first test that fails, or the pair of a schedule. Assumes nothing.
-use Rattle.std.proofs.Common.{sym, ap, ◌∙◌, rules, not, to_z-of_z, w64}
-use mir.Val.{SFits}
+use Rattle.std.proofs.Common.{sym, ap, ◌∙◌, rules, not}
 use Rattle.numbers.specs.DecidesLaws.{test_means}
 use Rattle.model.specs.Memory.{sheet_of}
 use Rattle.model.specs.Limits.{◌–◌}
@@ -28,16 +27,14 @@ returns-then-not-is_schedule c rows e =
     rule_broken (sheet_of a.sheet) c.requires a.departures.now rows a.given e c.fits.result c.fits.ensures (ap not c.if-not-fit.false)
     c.column_of-departure.result c.column_of-departure.ensures c.is_schedule.result c.is_schedule.ensures (ap not c.if-not-is_schedule.true)
 
-pub pair_of-pair-requires : goal.pair_of-pair-requires
-pair_of-pair-requires c =
+pub pair_of-requires : goal.pair_of-requires
+pair_of-requires c =
     (c.requires, test_means (decides_schedule (sheet_of c.args.sheet) _ _) (sym c.is_schedule.ensures ∙ c.if-not-is_schedule.false))
 
 pub returns : goal.returns
 returns c rows e =
     let a = c.args in
-    let pair = c.pair_of-pair in
-    let worst_fits : SFits w64 pair.result.worst = search rules in
-    rw (to_z-of_z {w = w64} worst_fits)
+    let pair = c.pair_of in
     (all_kept (sheet_of a.sheet) c.requires a.departures.now rows a.given e c.fits.result c.fits.ensures (ap not c.if-not-fit.false)
     c.column_of-departure.result c.column_of-departure.ensures c.is_schedule.result c.is_schedule.ensures (ap not c.if-not-is_schedule.false)
     (pair_told pair.result) pair.ensures)

@@ -7,23 +7,23 @@ use Rattle.watch.proofs.fit.fits.Goals as goal
 pub returns-in_default : goal.returns-in_default
 returns-in_default c =
     let a = c.args in
-    unfit (sheet_of a.sheet) a.state _ _ _ _ c.for_search-tested.ensures _ c.in_default.is
+    unfit (sheet_of a.sheet) a.state _ _ _ _ c.for_search.ensures _ c.in_default.is
 
 pub figure-most-requires : goal.figure-most-requires
-figure-most-requires c = admitted (sheet_of c.args.sheet) _ _ c.for_search-tested.ensures c.in-Granted.is
+figure-most-requires c = admitted (sheet_of c.args.sheet) _ _ c.for_search.ensures c.in-Ok.is
 
 pub returns-then-state-ne0 : goal.returns-then-state-ne0
 returns-then-state-ne0 c =
     let a = c.args in
     rw c.figure-most.ensures
-    (decides_ended (sheet_of a.sheet) a.state _ _ _ _ c.for_search-tested.ensures c.in-Granted.is c.if-state-ne0.true)
+    (decides_ended (sheet_of a.sheet) a.state _ _ _ _ c.for_search.ensures c.in-Ok.is c.if-state-ne0.true)
 
 pub fits-requires : goal.fits-requires
-fits-requires c = admitted (sheet_of c.args.sheet) _ _ c.for_search-tested.ensures c.in-Granted.is
+fits-requires c = admitted (sheet_of c.args.sheet) _ _ c.for_search.ensures c.in-Ok.is
 
 pub returns : goal.returns
 returns c =
     let a = c.args in
     rw c.figure-most.ensures
-    (decides_going (sheet_of a.sheet) a.state _ _ _ _ c.for_search-tested.ensures c.in-Granted.is c.if-state-ne0.false _
+    (decides_going (sheet_of a.sheet) a.state _ _ _ _ c.for_search.ensures c.in-Ok.is c.if-state-ne0.false _
     (rw c.resume-progress.ensures at c.fits.ensures))

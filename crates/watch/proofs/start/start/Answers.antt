@@ -1,24 +1,27 @@
 -- `watch::start::start` meets its contract: the first test that fails decides, else the search before its first round. Assumes nothing.
+use Rattle.std.proofs.lemmas.Result.{err_from_is_err_and}
 use Rattle.model.specs.Memory.{sheet_of}
 use Rattle.rounds.specs.ByRound.{all_areas, start_to}
 use Rattle.room.proofs.CallLaws.{admitted}
 use Rattle.watch.proofs.CallLaws.{start_refused, start_granted}
 use Rattle.watch.proofs.start.start.Goals as goal
 
-pub returns-in-Refused : goal.returns-in-Refused
+pub returns-in_err-for_search : goal.returns-in_err-for_search
 unfolding start_to
-returns-in-Refused c =
+returns-in_err-for_search g c =
     let a = c.args in
-    rw c.no_state.ensures
-    (start_refused (sheet_of a.sheet) (all_areas a.pairs.now a.train_of_order.now a.times.now) _ c.for_search-tested.ensures _ c.in-Refused.is)
+    let p = err_from_is_err_and c.from_residual.result c.from_residual.ensures.1 in
+    rw (← c.to_sheet-sheet.ensures, p.1, p.2)
+    (start_refused (sheet_of c.to_sheet-sheet.result) (all_areas a.pairs.now a.train_of_order.now a.times.now) _ c.for_search.ensures _
+    c.in_err-for_search.was)
 
-pub start_search-progress-requires : goal.start_search-progress-requires
-start_search-progress-requires c = admitted (sheet_of c.args.sheet) _ _ c.for_search-tested.ensures c.in_default.is
+pub start_search-requires : goal.start_search-requires
+start_search-requires g c = admitted (sheet_of c.to_sheet-sheet.result) _ _ c.for_search.ensures c.in_ok-for_search.was
 
 pub returns : goal.returns
 unfolding start_to
-returns c =
+returns g c =
     let a = c.args in
-    rw c.keep.ensures
-    (start_granted (sheet_of a.sheet) (all_areas a.pairs.now a.train_of_order.now a.times.now) _ c.for_search-tested.ensures c.in_default.is
-    c.start_search-progress.result c.start_search-progress.ensures)
+    rw (← c.to_sheet-sheet.ensures, c.keep.ensures)
+    (start_granted (sheet_of c.to_sheet-sheet.result) (all_areas a.pairs.now a.train_of_order.now a.times.now) _ c.for_search.ensures
+    c.in_ok-for_search.was c.start_search.result c.start_search.ensures)
