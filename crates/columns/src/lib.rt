@@ -1,21 +1,11 @@
 // Columns of trains: train i stands at place i - 1.
 #![tactic(auto)]
 
-ghost use Rattle.std.specs.Prelude.{◌≡◌, ◌≤◌, max, leb};
+ghost use Rattle.std.specs.Prelude.{◌≡◌, ◌≤◌, leb};
 ghost use Rattle.numbers.specs.Counting.{nth, each};
 ghost use Rattle.model.specs.Limits.{train_counts};
 
 use model::limits::MOST_TRAINS;
-
-// The larger of two numbers.
-pub fn larger(a: u32, b: u32) -> u32
-    ensures { result ≡ max a b }
-{
-    if a < b {
-        return b;
-    }
-    a
-}
 
 // The element of train i.
 pub fn of_train(column: &[u32; MOST_TRAINS], i: u8) -> u32
