@@ -4,7 +4,7 @@ ghost use Rattle.model.specs.Limits.{◌–◌, train_counts};
 ghost use Rattle.foreign.specs.Gathered.{place_in, column_in, column_fits, column_within};
 
 use crate::Given;
-use model::limits::{MOST_ORDERS, MOST_TRAINS};
+use model::limits::MOST_TRAINS;
 
 // Whether an order that is on the sheet has a train from `least` to q, and one that is not has none, 0.
 fn fits_at(train: u8, on_sheet: bool, least: u8, q: usize) -> bool
@@ -12,9 +12,10 @@ fn fits_at(train: u8, on_sheet: bool, least: u8, q: usize) -> bool
     ensures { result ≡ place_in (least – q) on_sheet train }
 {
     if on_sheet {
-        return (least <= train) & (train <= (q as u8));
+        (least <= train) & (train <= (q as u8))
+    } else {
+        train == 0
     }
-    train == 0
 }
 
 // Whether sound rows give each of n orders a train from `least` to q, and no other order any.
@@ -22,12 +23,9 @@ fn fits_from(given: Given, n: usize, least: u8, q: usize) -> bool
     requires { q ≤ train_counts.most }
     ensures { result ≡ column_in n (least – q) given }
 {
-    let column = given.train;
     let mut fit = given.sound;
-    let mut j: usize = 0;
-    while j < MOST_ORDERS {
-        fit = fits_at(column[j], j < n, least, q) & fit;
-        j += 1;
+    for (j, &train) in given.train.iter().enumerate() {
+        fit = fits_at(train, j < n, least, q) & fit;
     }
     fit
 }
@@ -54,10 +52,6 @@ pub fn column_of(departures: &[u32]) -> [u32; MOST_TRAINS]
     ensures { take (length departures.now) result ≡ departures.now }
 {
     let mut column = [0u32; MOST_TRAINS];
-    let mut i: usize = 0;
-    while i < departures.len() {
-        column[i] = departures[i];
-        i += 1;
-    }
+    column[..departures.len()].copy_from_slice(departures);
     column
 }

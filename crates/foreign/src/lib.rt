@@ -10,7 +10,7 @@ use model::Row;
 use model::limits::{MOST_ORDERS, MOST_TRAINS, in_range};
 
 // What some rows say: the train of each order, by place, 0 for one that they do not name. They are sound if they name no order twice, and no order or train
-// that no sheet has.
+// that no sheet has. No Option of the column: the tests of the column fold `sound` with the others in one pass, and what comes after them reads it unasked.
 #[derive(Clone, Copy)]
 pub struct Given {
     pub train: [u8; MOST_ORDERS],
@@ -28,29 +28,16 @@ pub fn before_rows() -> Given
 }
 
 // One more row.
-pub fn with_row(given: Given, order: u32, train: u32) -> Given
+pub fn with_row(mut given: Given, order: u32, train: u32) -> Given
     ensures { result ≡ row_added given order train }
 {
-    let mut column = given.train;
     let known = in_range(1, MOST_ORDERS as u32, order) & in_range(1, MOST_TRAINS as u32, train);
-    if !known {
-        return Given {
-            train: column,
-            sound: false,
-        };
+    if known && given.train[(order - 1) as usize] == 0 {
+        given.train[(order - 1) as usize] = train as u8;
+    } else {
+        given.sound = false;
     }
-    let j = (order - 1) as usize;
-    if column[j] != 0 {
-        return Given {
-            train: column,
-            sound: false,
-        };
-    }
-    column[j] = train as u8;
-    Given {
-        train: column,
-        sound: given.sound,
-    }
+    given
 }
 
 // All rows of a lent list of records.
@@ -58,12 +45,8 @@ pub fn gather(rows: &[Row]) -> Given
     ensures { result ≡ gathered rows.now (length rows.now) }
 {
     let mut given = before_rows();
-    let mut k: usize = 0;
-    while k < rows.len() {
-        let order = rows[k].order;
-        let train = rows[k].train;
-        given = with_row(given, order, train);
-        k += 1;
+    for row in rows {
+        given = with_row(given, row.order, row.train);
     }
     given
 }

@@ -9,13 +9,13 @@ use Rattle.foreign.proofs.fit.fits_from.Goals as goal
 
 pub loop-j-init : goal.loop-j-init
 unfolding every
-loop-j-init c = (omega arith, refl)
+loop-j-init c = refl
 
 pub loop-j-preserved : goal.loop-j-preserved
 loop-j-preserved c =
     let l = c.loop-j in
-    (omega arith, rw (every_more, c.fits_at-fit.ensures, l.invariant.1, and_assoc))
+    rw (every_more, c.fits_at-fit.ensures, l.invariant, and_assoc)
 
 pub returns : goal.returns
 unfolding column_in
-returns c = let l = c.loop-j in let e : l.j ≡ order_counts.most = omega arith in rw e at l.invariant.1
+returns c = let l = c.loop-j in let e : l.j ≡ order_counts.most = omega arith in rw e at l.invariant
