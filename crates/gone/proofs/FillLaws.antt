@@ -1,6 +1,7 @@
 -- A column that is filled from its front. Assumes nothing.
-use Rattle.std.specs.Prelude.{◌≡◌, ◌⊎◌, cond, List, ℕ, ◌+◌, ◌<◌, ltb, length, set}
-use Rattle.std.proofs.Common.{sym, ◌∙◌, inl, inr, arith, get_or-set_same, get_or-set_other}
+use Rattle.std.specs.Prelude.{◌≡◌, ◌⊎◌, cond, List, ◌++◌, ℕ, ◌+◌, ◌-◌, ◌≤◌, ◌<◌, ltb, length, set, take, drop}
+use Rattle.std.proofs.Common.{sym, ◌∙◌, ap, inl, inr, arith, get_or-set_same, get_or-set_other, get_or-take, length-take-le}
+use Rattle.std.proofs.lemmas.List.{get_or_append_left, get_or-append_right, get_or-drop}
 use Rattle.numbers.specs.Counting.{at}
 use Rattle.numbers.specs.DecidesLaws.{decides_lt, decides_eq, decided, cond_yes, cond_no}
 use Rattle.gone.specs.GonePart.{Filled}
@@ -25,3 +26,23 @@ module _ (f g : ℕ → ℕ) where
           rest : (k < i) ⊎ (¬ (k < i)) → at l k ≡ cond (ltb k (i + 1)) (f k) (g k)
           rest (inl w) = filled_here l i k h w ∙ sym (cond_yes (decides_lt k (i + 1)) (omega arith) (f k) (g k))
           rest (inr w) = filled_rest l i k h w ∙ sym (cond_no (decides_lt k (i + 1)) (λ z. omega arith) (f k) (g k))
+
+-- the first n elements of another column
+pub filled_copied : (a b front : List ℕ) (n : ℕ) → n ≤ length a → front ≡ take n a → Filled (at a) (at b) n (front ++ drop n b)
+filled_copied a b front n few e k = go (decided (decides_lt k n))
+  where
+    long : length front ≡ n
+    long = ap (λ (l : List ℕ). length l) e ∙ length-take-le n a few
+
+    go : (k < n) ⊎ (¬ (k < n)) → at (front ++ drop n b) k ≡ cond (ltb k n) (at a k) (at b k)
+    go (inl u) =
+        get_or_append_left front (drop n b) 0 k (omega (arith, long))
+        ∙ ap (λ (l : List ℕ). at l k) e
+        ∙ get_or-take n a k 0 u
+        ∙ sym (cond_yes (decides_lt k n) u (at a k) (at b k))
+    go (inr u) =
+        let place : n + (k - n) ≡ k = omega arith in
+        get_or-append_right front (drop n b) n k 0 long (omega arith)
+        ∙ get_or-drop n b (k - n) 0
+        ∙ ap (at b) place
+        ∙ sym (cond_no (decides_lt k n) u (at a k) (at b k))

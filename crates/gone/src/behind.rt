@@ -21,10 +21,8 @@ fn places_behind(
     requires { (n ≤ order_counts.most) × (gone ≤ train_counts.most) }
     ensures { Filled (λ k. count (λ j. eqb (at train.now j) (suc k)) n) (at capacity) gone result }
 {
-    let mut i: usize = 0;
-    while i < gone {
+    for i in 0..gone {
         capacity[i] = carried(train, n, (i + 1) as u8);
-        i += 1;
     }
     capacity
 }
@@ -35,11 +33,7 @@ fn since_behind(gone: usize, departure: [u32; MOST_TRAINS], minute: u32) -> [u32
     ensures { Filled (at departure) (at (replicate train_counts.most minute)) gone result }
 {
     let mut since = [minute; MOST_TRAINS];
-    let mut i: usize = 0;
-    while i < gone {
-        since[i] = departure[i];
-        i += 1;
-    }
+    since[..gone].copy_from_slice(&departure[..gone]);
     since
 }
 
@@ -47,10 +41,7 @@ fn since_behind(gone: usize, departure: [u32; MOST_TRAINS], minute: u32) -> [u32
 fn latest_of(train: u8, last: u8) -> u8
     ensures { result ≡ cond (eqb train 0) last train }
 {
-    if train == 0 {
-        return last;
-    }
-    train
+    if train == 0 { last } else { train }
 }
 
 // The latest trains.
@@ -58,10 +49,8 @@ fn latest_behind(n: usize, last: u8, mut train: [u8; MOST_ORDERS]) -> [u8; MOST_
     requires { n ≤ order_counts.most }
     ensures { Filled (λ j. cond (eqb (at train j) 0) last (at train j)) (at train) n result }
 {
-    let mut j: usize = 0;
-    while j < n {
+    for j in 0..n {
         train[j] = latest_of(train[j], last);
-        j += 1;
     }
     train
 }
