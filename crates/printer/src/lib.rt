@@ -1,13 +1,13 @@
 // Document 01, "The printed plan": a plan or a refusal as bytes in a lent buffer, which stays as found where they do not fit.
 #![tactic(auto)]
 
-ghost use Rattle.std.specs.Prelude.{◌≡◌, Some};
-ghost use Rattle.writing.specs.Writing.{Prints, state, pass};
+ghost use Rattle.writing.specs.Writing.{Prints, Puts};
 ghost use Rattle.layout.specs.Lines.{refusal_line};
 ghost use Rattle.printer.specs.PlanBytes.{plan_bytes};
 
 use fields::NamePlaces;
 use model::Refusal;
+use writing::Page;
 
 // Prints a plan: the listed pairs (two numbers a pair), the train of each order, the times of each train (three numbers a train: departure, arrival, window)
 // and the rounds, with the names of the orders from their places in the sheet's text. A lone last number of the pairs, and one or two last numbers of the
@@ -25,51 +25,48 @@ pub fn print_plan(
         (plan_bytes text.now names pairs.now train_of_order.now times.now rounds)
         out.old result out.new }
 {
+    let mut counted = Page::counting(out);
     plan_lines(
+        &mut counted,
         text,
         names,
         pairs,
         train_of_order,
         times,
         rounds,
-        out,
-        false,
-    )?;
-    plan_lines(text, names, pairs, train_of_order, times, rounds, out, true)
+    );
+    counted.place?;
+    let mut page = Page::writing(out);
+    plan_lines(&mut page, text, names, pairs, train_of_order, times, rounds);
+    page.place
 }
 
 // Prints a refusal.
 pub fn print_refusal(refusal: Refusal, out: &mut [u8]) -> Option<usize>
     ensures { Prints (refusal_line refusal) out.old result out.new }
 {
-    layout::refusal_line(out, Some(0), false, refusal)?;
-    layout::refusal_line(out, Some(0), true, refusal)
+    let mut counted = Page::counting(out);
+    layout::refusal_line(&mut counted, refusal);
+    counted.place?;
+    let mut page = Page::writing(out);
+    layout::refusal_line(&mut page, refusal);
+    page.place
 }
 
-// All lines of a plan, from the front of the buffer.
+// All lines of a plan.
 fn plan_lines(
+    page: &mut Page<'_>,
     text: &[u8],
     names: NamePlaces,
     pairs: &[i64],
     train_of_order: &[u8],
     times: &[u32],
     rounds: usize,
-    out: &mut [u8],
-    writing: bool,
-) -> Option<usize>
-    ensures { state result out.new ≡ pass writing (plan_bytes text.now names
-        pairs.now train_of_order.now times.now rounds)
-        (state (Some 0) out.old) }
+)
+    ensures { Puts (plan_bytes text.now names pairs.now train_of_order.now times.now rounds) page.old page.new }
 {
-    let behind_pairs = layout::pair_lines(out, Some(0), writing, pairs);
-    let behind_times = layout::time_lines(out, behind_pairs, writing, times);
-    let behind_orders = layout::order_lines(
-        out,
-        behind_times,
-        writing,
-        text,
-        names,
-        train_of_order,
-    );
-    layout::rounds_line(out, behind_orders, writing, rounds)
+    layout::pair_lines(page, pairs);
+    layout::time_lines(page, times);
+    layout::order_lines(page, text, names, train_of_order);
+    layout::rounds_line(page, rounds);
 }

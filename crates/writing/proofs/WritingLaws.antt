@@ -1,31 +1,41 @@
--- Laws of the pass over a buffer: passes join, one that is not writing finds the length, and one that is writing puts the bytes.
+-- Laws of the pass over a buffer: what is put on a page joins, a pass that is not writing finds the length, and one that is writing puts the bytes.
 use Rattle.std.specs.Prelude.{Bool, true, false, cond, Option, Some, None, ◌≡◌, refl, List, [], ◌∷◌, ◌++◌, ℕ, suc, ◌+◌, ◌≤◌, ◌<◌, ltb, leb, length, set, drop}
 use Rattle.std.proofs.Common.{ap, sym, ◌∙◌, add-one, arith, length-set, lt-ltb, le-ltb, leb-true, leb-false, ltb-true, ltb-false}
 use Rattle.std.proofs.lemmas.List.Edits.{sets, sets-eq}
+use Rattle.std.specs.Borrow.{MutBor}
 use Rattle.numbers.specs.Over.{over}
-use Rattle.writing.specs.Writing.{State, state, put_byte, pass, Prints}
+use Rattle.writing.specs.declared.Page.{Page}
+use Rattle.writing.specs.Writing.{State, state, put_byte, pass, opened, Puts, Prints}
 
-pub pass_none : (w : Bool) (s : State) → pass w [] s ≡ s
+pass_none : (w : Bool) (s : State) → pass w [] s ≡ s
 unfolding pass
 pass_none w s = refl
 
-pub pass_append : (w : Bool) (xs ys : List ℕ) (s : State) → pass w (xs ++ ys) s ≡ pass w ys (pass w xs s)
+pass_append : (w : Bool) (xs ys : List ℕ) (s : State) → pass w (xs ++ ys) s ≡ pass w ys (pass w xs s)
 unfolding pass
 pass_append w [] ys s = refl
 pass_append w (x ∷ xs) ys s = pass_append w xs ys (put_byte w x s.place s.out)
 
--- a second pass, from where the first one ended
-pub pass_then : (w : Bool) (xs ys : List ℕ) (r : State) {s t : State} → s ≡ pass w xs r → t ≡ pass w ys s → t ≡ pass w (xs ++ ys) r
-pass_then w xs ys r e f = f ∙ ap (pass w ys) e ∙ sym (pass_append w xs ys r)
+-- ---- on a page
 
--- the same for bytes that are known to be the two parts
-pub pass_more :
-    (w : Bool) (xs ys : List ℕ) (r : State) {all : List ℕ} {s t : State} → all ≡ xs ++ ys → s ≡ pass w xs r → t ≡ pass w ys s → t ≡ pass w all r
-pass_more w xs ys r g e f = pass_then w xs ys r e f ∙ ap (λ (l : List ℕ). pass w l r) (sym g)
+pub puts_none : (p : Page) → Puts [] p p
+unfolding pass
+puts_none p = record { passed = refl; writing = refl; buffer = refl }
+
+pub puts_then : (xs ys : List ℕ) {a b c : Page} → Puts xs a b → Puts ys b c → Puts (xs ++ ys) a c
+puts_then xs ys {a} {b} {c} p q =
+    record {
+      passed = rw (pass_append a.writing xs ys) (rw (← p.passed, ← p.writing) q.passed);
+      writing = q.writing ∙ p.writing;
+      buffer = q.buffer ∙ p.buffer;
+    }
+
+pub puts_cons : (b : ℕ) (bs : List ℕ) (p q r : Page) → Puts (b ∷ []) p q → Puts bs q r → Puts (b ∷ bs) p r
+puts_cons b bs p q r h g = puts_then (b ∷ []) bs h g
 
 -- the same bytes, written another way
-pub pass_same : (w : Bool) (r : State) {xs ys : List ℕ} {t : State} → xs ≡ ys → t ≡ pass w xs r → t ≡ pass w ys r
-pass_same w r g e = e ∙ ap (λ (l : List ℕ). pass w l r) g
+pub puts_same : {xs ys : List ℕ} {a b : Page} → xs ≡ ys → Puts xs a b → Puts ys a b
+puts_same e p = rw (← e) p
 
 -- ---- one byte
 
@@ -101,7 +111,7 @@ module _ (bs found : List ℕ) {p : Option ℕ} {o : List ℕ} (e : state p o �
       let z : ◌≡◌ {A = ℕ} 0 1 = cc in
       absurd (omega arith)
 
-  pub prints_short : p ≡ None → Prints bs found None o
+  prints_short : p ≡ None → Prints bs found None o
   prints_short h = go (leb (length bs) (length found)) refl
     where
       go : (t : Bool) → leb (length bs) (length found) ≡ t → Prints bs found None o
@@ -114,9 +124,22 @@ module _ (bs found : List ℕ) {p : Option ℕ} {o : List ℕ} (e : state p o �
           let x : state p o ≡ state None found = e ∙ short_all bs found (leb-false (length bs) (length found) f) in
           record { answer = rw f; out = rw f (ap (λ (s : State). s.out) x) }
 
-  pub prints_bytes : (n : ℕ) → p ≡ Some n → {r : Option ℕ} {after : List ℕ} → state r after ≡ pass true bs (state (Some 0) o) → Prints bs found r after
+  prints_bytes : (n : ℕ) → p ≡ Some n → {r : Option ℕ} {after : List ℕ} → state r after ≡ pass true bs (state (Some 0) o) → Prints bs found r after
   prints_bytes n h {r} {after} g =
       let k = fits_at n h (leb (length bs) (length found)) refl in
       let x : length bs ≤ length found = leb-true (length bs) (length found) k.0 in
       let y : state r after ≡ state (Some (length bs)) (over bs found) = g ∙ rw k.1 (written_all bs found x) in
       record { answer = rw k.0 (ap (λ (s : State). s.place) y); out = rw k.0 (ap (λ (s : State). s.out) y) }
+
+-- the page of the first pass is left with b, and the buffer x of both is the buffer of the second one, which is left with d
+module _ {bs : List ℕ} {o : MutBor (List ℕ)} {a b : Page} (counting : a ≡ opened o false) (count : Puts bs a b) {x : List ℕ} (left : x ≡ b.out.now) where
+  passed_first : state b.place x ≡ pass false bs (state (Some 0) o.now)
+  passed_first = rw left (rw counting at count.passed)
+
+  pub printed_short : b.place ≡ None → Prints bs o.now None x
+  printed_short h = prints_short bs o.now passed_first h
+
+  pub printed_bytes : (n : ℕ) → b.place ≡ Some n → {again : MutBor (List ℕ)} {c d : Page} → c ≡ opened again true → again.now ≡ x → Puts bs c d
+      → {y : List ℕ} → y ≡ d.out.now → Prints bs o.now d.place y
+  printed_bytes n h {again} writing same put e =
+      prints_bytes bs o.now passed_first n h (rw (e, ← same) (rw writing at put.passed))

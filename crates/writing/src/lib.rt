@@ -1,63 +1,96 @@
-// Bytes, numbers and names, put into a lent buffer behind those before them. Where `writing` is false they are only counted.
+// Bytes, numbers and names, put on a page behind those before them.
 #![tactic(auto)]
 
-ghost use Rattle.std.specs.Prelude.{◌≡◌, [], ◌∷◌};
+ghost use Rattle.std.specs.Prelude.{◌≡◌, [], ◌∷◌, true, false};
 ghost use Rattle.writing.specs.Decimal.{decimal, signed, field};
-ghost use Rattle.writing.specs.Writing.{state, pass};
 
-// One byte. A place is where the next byte goes in the buffer; there is none once a byte did not fit.
-#[tactic(auto, unfolding(crate::specs::Writing::pass, crate::specs::Writing::put_byte))]
-pub fn put(out: &mut [u8], place: Option<usize>, writing: bool, byte: u8) -> Option<usize>
-    ensures { state result out.new ≡ pass writing (byte ∷ []) (state place out.old) }
-{
-    let at = place?;
-    if out.len() <= at {
-        return None;
-    }
-    if writing {
-        out[at] = byte;
-    }
-    Some(at + 1)
+// A lent buffer, and the place in it where the next byte goes; there is none once a byte did not fit. Where `writing` is false, bytes are only counted.
+#[derive(Drop)]
+pub struct Page<'a> {
+    pub out: &'a mut [u8],
+    pub place: Option<usize>,
+    pub writing: bool,
 }
 
-// A number in decimal: the number without its last digit, then that digit.
-fn put_decimal(out: &mut [u8], place: Option<usize>, writing: bool, n: u64) -> Option<usize>
-    ensures { state result out.new ≡ pass writing (decimal n) (state place out.old) }
-{
-    let digit = b'0' + (n % 10) as u8;
-    if n < 10 {
-        return put(out, place, writing, digit);
-    }
-    let behind = put_decimal(out, place, writing, n / 10);
-    put(out, behind, writing, digit)
-}
+impl<'a> Page<'a> {
+    ghost use Rattle.writing.specs.Writing.{opened, Puts};
 
-// A number, behind a comma.
-pub fn number_field(out: &mut [u8], place: Option<usize>, writing: bool, n: u64) -> Option<usize>
-    ensures { state result out.new ≡ pass writing (field (decimal n)) (state place out.old) }
-{
-    let behind = put(out, place, writing, b',');
-    put_decimal(out, behind, writing, n)
-}
-
-// A signed number, behind a comma.
-pub fn signed_field(out: &mut [u8], place: Option<usize>, writing: bool, n: i64) -> Option<usize>
-    ensures { state result out.new ≡ pass writing (field (signed n)) (state place out.old) }
-{
-    let mut behind = put(out, place, writing, b',');
-    if n < 0 {
-        behind = put(out, behind, writing, b'-');
+    // A page on which bytes are only counted.
+    pub fn counting(out: &'a mut [u8]) -> Page<'a>
+        ensures { result ≡ opened out.entry false }
+    {
+        Page {
+            out,
+            place: Some(0),
+            writing: false,
+        }
     }
-    put_decimal(out, behind, writing, n.unsigned_abs())
-}
 
-// A name, behind a comma.
-pub fn name_field(out: &mut [u8], place: Option<usize>, writing: bool, name: &[u8]) -> Option<usize>
-    ensures { state result out.new ≡ pass writing (field name.now) (state place out.old) }
-{
-    let mut behind = put(out, place, writing, b',');
-    for byte in name {
-        behind = put(out, behind, writing, *byte);
+    // A page on which bytes are written, from the front of the buffer.
+    pub fn writing(out: &'a mut [u8]) -> Page<'a>
+        ensures { result ≡ opened out.entry true }
+    {
+        Page {
+            out,
+            place: Some(0),
+            writing: true,
+        }
     }
-    behind
+
+    // One byte.
+    #[tactic(auto, unfolding(crate::specs::Writing::pass, crate::specs::Writing::put_byte))]
+    pub fn put(&mut self, byte: u8)
+        ensures { Puts (byte ∷ []) self.old self.new }
+    {
+        let Some(at) = self.place else {
+            return;
+        };
+        if self.out.len() <= at {
+            self.place = None;
+            return;
+        }
+        if self.writing {
+            self.out[at] = byte;
+        }
+        self.place = Some(at + 1);
+    }
+
+    // A number in decimal: the number without its last digit, then that digit.
+    fn put_decimal(&mut self, n: u64)
+        ensures { Puts (decimal n) self.old self.new }
+    {
+        if n >= 10 {
+            self.put_decimal(n / 10);
+        }
+        self.put(b'0' + (n % 10) as u8);
+    }
+
+    // A number, behind a comma.
+    pub fn number_field(&mut self, n: u64)
+        ensures { Puts (field (decimal n)) self.old self.new }
+    {
+        self.put(b',');
+        self.put_decimal(n);
+    }
+
+    // A signed number, behind a comma.
+    pub fn signed_field(&mut self, n: i64)
+        ensures { Puts (field (signed n)) self.old self.new }
+    {
+        self.put(b',');
+        if n < 0 {
+            self.put(b'-');
+        }
+        self.put_decimal(n.unsigned_abs());
+    }
+
+    // A name, behind a comma.
+    pub fn name_field(&mut self, name: &[u8])
+        ensures { Puts (field name.now) self.old self.new }
+    {
+        self.put(b',');
+        for byte in name {
+            self.put(*byte);
+        }
+    }
 }

@@ -3,21 +3,19 @@ use Rattle.std.proofs.Common.{◌+◌, ◌*◌, ◌≡◌, [], ◌∷◌, ◌++�
 use Rattle.std.proofs.Common.{ℤ, pos, to_z, of_z, w64, SFits}
 use Rattle.std.proofs.Math.Facts.{to_z-of_z}
 use Rattle.model.specs.Limits.{numbers_a_pair}
-use Rattle.writing.specs.Writing.{state, pass}
-use Rattle.writing.proofs.WritingLaws.{pass_more, pass_same}
+use Rattle.writing.proofs.WritingLaws.{puts_none, puts_then, puts_same}
 use Rattle.layout.specs.Lines.{pair_line, pair_lines}
 use Rattle.layout.proofs.LineLaws.{pair_next, rest_left, number_read}
 use Rattle.layout.proofs.pair_lines.Goals as goal
 
 pub loop-pair-init : goal.loop-pair-init
-unfolding pass pair_lines
-loop-pair-init c = search rules
+unfolding pair_lines
+loop-pair-init c = search (rules, puts_none)
 
 pub loop-pair-preserved : goal.loop-pair-preserved
 loop-pair-preserved c =
     let l = c.loop-pair in
-    let a = c.args in
-    let pairs = a.pairs.now in
+    let pairs = c.args.pairs.now in
     let pair = c.in-Some.pair.now in
     let n = length l.yielded in
     let steps = c.in-Some.ensures.steps in
@@ -34,9 +32,8 @@ loop-pair-preserved c =
     let worst : to_z w64 (of_z w64 (get_or pair 1 (pos 0))) ≡ y =
     to_z-of_z {w = w64} y-fits ∙ number_read k pairs pair _ cut 1 (k + 1) (pos 0) refl (omega (arith, long)) in
     let line = ap (λ (z : ℤ). pair_line z (to_z w64 (of_z w64 (get_or pair 1 (pos 0))))) last ∙ ap (pair_line x) worst in
-    let put = pass_same a.writing (state l.behind l.out) line c.pair_line-behind.ensures in
     rw more (
       steps.0 ∙ l.invariant.0,
       rest_left k pairs pair _ cut _ (omega (arith, long)),
-      pass_more _ _ _ _ (pair_next pairs n) l.invariant.2 put,
+      puts_same (sym (pair_next pairs n)) (puts_then _ _ l.invariant.2 (puts_same line c.pair_line.ensures)),
     )

@@ -1,5 +1,5 @@
--- `refusal_line` meets its contract: the passes of its fields join. Assumes nothing.
-use Rattle.writing.proofs.WritingLaws.{pass_then}
+-- `refusal_line` meets its contract: its fields are put one behind the other. Assumes nothing.
+use Rattle.writing.proofs.WritingLaws.{puts_then}
 use Rattle.layout.specs.Lines.{refusal_line}
 use Rattle.layout.proofs.refusal_line.Goals as goal
 
@@ -7,6 +7,4 @@ pub returns : goal.returns
 unfolding refusal_line
 returns c =
     rw (← c.number-number.ensures, ← c.returned-returned.ensures)
-    (pass_then _ _ _ _
-    (pass_then _ _ _ _ (pass_then _ _ _ _ c.put-kind.ensures c.number_field-first.ensures) c.number_field-second.ensures)
-    c.put.ensures)
+    (puts_then _ _ (puts_then _ _ (puts_then _ _ c.put.ensures c.number_field.ensures) c.number_field-2.ensures) c.put-2.ensures)
