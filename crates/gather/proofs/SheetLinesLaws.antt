@@ -1,6 +1,7 @@
 -- Lines without a fault keep all columns inside every limit that planning tests, in both forms. Assumes nothing.
-use Rattle.std.specs.Prelude.{◌≡◌, Bool, leb, ℕ, ◌<◌}
-use Rattle.std.proofs.Common.{ltb-true, arith}
+use Rattle.std.specs.Prelude.{◌≡◌, Bool, true, Option, None, ℕ}
+use Rattle.std.specs.Option.{is_some, unwrap_or}
+use Rattle.std.proofs.Common.{arith}
 use Rattle.model.specs.Limits.{Inside, gap_range}
 use Rattle.fields.proofs.FieldLaws.{inside_means}
 use Rattle.model.specs.declared.Refusal.TheVariants.{Malformed}
@@ -14,23 +15,23 @@ use Rattle.rows.proofs.WindowLaws.{GoodWindows, no_windows_good, window_room, wi
 use Rattle.rows.proofs.TrainLaws.{GoodTrains, GoodPaths, no_trains_good, no_paths_good, train_room, train_more, run_more}
 use Rattle.rows.proofs.TrainLaws.{fixed_train_room, fixed_train_more, times_more}
 use Rattle.gather.specs.Tests.{Counts, gap_tests, of_form, tests_of, kind_tests, line_fault}
-use Rattle.gather.specs.SheetLines.{OneMore, kind, no_lines, with_line}
+use Rattle.gather.specs.SheetLines.{OneMore, kind, late_enough, no_lines, with_line}
 use Rattle.lines.specs.declared.Gap.{Gap}
 use Rattle.lines.specs.declared.Line.{Line}
 use Rattle.lines.specs.declared.Line.TheVariants as L
 use Rattle.gather.specs.declared.SheetLines.{SheetLines}
 
 -- a G line without a fault is the only one, and its gap is in its range
-module _ (late : Bool) (count : ℕ) (g : Gap) (e : NoFault (gap_tests late count g)) where
-  gap_room : count < 1
-  gap_room = ltb-true count 1 e.few
+module _ (late : Bool) (gap : Option ℕ) (g : Gap) (e : NoFault (gap_tests late gap g)) where
+  gap_room : gap ≡ None
+  gap_room = grind (arith, e.few)
 
   gap_in_range : Inside gap_range g.gap
   gap_in_range = inside_means gap_range g.gap e.ranged
 
 pub record Good (form : Form) (s : SheetLines) : Type 0 where
   pub orders : GoodOrders s.orders
-  pub gap : 0 < s.gap_count → Inside gap_range s.gap
+  pub gap : is_some s.gap ≡ true → Inside gap_range (unwrap_or s.gap 0)
   pub windows : GoodWindows s.windows
   pub trains : GoodTrains s.trains
   pub paths : GoodPaths form s.trains
@@ -38,7 +39,7 @@ pub record Good (form : Form) (s : SheetLines) : Type 0 where
 pub no_lines_good : (form : Form) → Good form no_lines
 unfolding no_lines
 no_lines_good form =
-    record { orders = no_orders_good; gap = λ l. absurd (omega arith); windows = no_windows_good; trains = no_trains_good; paths = no_paths_good form }
+    record { orders = no_orders_good; gap = λ e. absurd cc; windows = no_windows_good; trains = no_trains_good; paths = no_paths_good form }
 
 -- lines that are good are not too many
 pub good_counts : (form : Form) (s : SheetLines) → Good form s → Counts s
@@ -46,7 +47,7 @@ good_counts form s h = record { windows = h.windows.few; trains = h.trains.few }
 
 module _ (line : ℕ) (s : SheetLines) where
   -- a line without a fault is of the form, and passed the tests of its kind
-  pub no_line_fault : (form : Form) (l : Line) → line_fault form line s l ≡ Ok tt → NoFault (tests_of (leb s.above (kind l)) s l)
+  pub no_line_fault : (form : Form) (l : Line) → line_fault form line s l ≡ Ok tt → NoFault (tests_of (late_enough s.above (kind l)) s l)
   unfolding line_fault kind_tests
   no_line_fault form l e = no_fault line (kind_tests s l) (passed_granted (of_form form l) (Malformed line) (first_fault line (kind_tests s l)) e).1
 
@@ -55,7 +56,7 @@ module _ (line : ℕ) (s : SheetLines) where
   one_more form l e = go _ l (no_line_fault form l e)
     where
       go : (late : Bool) (l : Line) → NoFault (tests_of late s l) → OneMore s l
-      go late (L.Gap g) e = gap_room late s.gap_count g e
+      go late (L.Gap g) e = gap_room late s.gap g e
       go late (L.Window w) e = window_room late s.windows w e
       go late (L.Train t) e = train_room late s.trains t e
       go late (L.FixedTrain t) e = fixed_train_room late s.trains t e
@@ -68,7 +69,7 @@ module _ (line : ℕ) (s : SheetLines) where
     where
       go : (form : Form) (late : Bool) (l : Line) → line_fault form line s l ≡ Ok tt → NoFault (tests_of late s l) → Good form s → Good form (with_line s l)
       go form late (L.Gap g) e k h =
-          record { orders = h.orders; gap = λ l. gap_in_range late s.gap_count g k; windows = h.windows; trains = h.trains; paths = h.paths }
+          record { orders = h.orders; gap = λ l. gap_in_range late s.gap g k; windows = h.windows; trains = h.trains; paths = h.paths }
       go form late (L.Window w) e k h =
           record { orders = h.orders; gap = h.gap; windows = window_more late s.windows w k h.windows; trains = h.trains; paths = h.paths }
       go Windows late (L.Train t) e k h =

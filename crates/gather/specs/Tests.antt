@@ -1,5 +1,6 @@
 -- DOCUMENT 01, "THE SHEET", THE TABLE OF REFUSALS: the tests of a line after those that gave s, and those after the last line.
-use Rattle.std.specs.Prelude.{Bool, true, false, not, ◌&&◌, ◌||◌, ℕ, ◌≤◌, leb, ltb}
+use Rattle.std.specs.Prelude.{Bool, true, false, Option, not, ◌&&◌, ◌||◌, ℕ, ◌≤◌, leb}
+use Rattle.std.specs.Option.{is_some, is_none}
 use Rattle.numbers.specs.Counting.{nth}
 use Rattle.model.specs.Sheet.{places}
 use Rattle.model.specs.Limits.{inside, gap_range, window_counts, train_counts}
@@ -15,7 +16,7 @@ use Rattle.rows.specs.Faults.{first_fault, last_fault}
 use Rattle.rows.specs.WindowLines.{window_tests}
 use Rattle.rows.specs.TrainLines.{train_tests, fixed_train_tests}
 use Rattle.rows.specs.OrderLines.{order_tests}
-use Rattle.gather.specs.SheetLines.{kind}
+use Rattle.gather.specs.SheetLines.{kind, late_enough}
 use Rattle.rows.specs.declared.LineTests.{LineTests}
 use Rattle.gather.specs.declared.SheetLines.{SheetLines}
 
@@ -26,12 +27,12 @@ pub record Counts (s : SheetLines) : Type 0 where
 
 -- ---- the tests of each kind
 
-abbrev pub gap_tests : (late : Bool) (count : ℕ) → Gap → LineTests
-gap_tests late count g = record { late_enough = late; few = ltb count 1; in_range = inside gap_range g.gap; in_order = true }
+abbrev pub gap_tests : (late : Bool) (gap : Option ℕ) → Gap → LineTests
+gap_tests late gap g = record { late_enough = late; few = is_none gap; in_range = inside gap_range g.gap; in_order = true }
 
 -- where the kind is late enough, or not
 abbrev pub tests_of : (late : Bool) → SheetLines → Line → LineTests
-tests_of late s (L.Gap g) = gap_tests late s.gap_count g
+tests_of late s (L.Gap g) = gap_tests late s.gap g
 tests_of late s (L.Window w) = window_tests late s.windows w
 tests_of late s (L.Train t) = train_tests late s.trains.count t
 tests_of late s (L.FixedTrain t) = fixed_train_tests late s.trains t
@@ -39,7 +40,7 @@ tests_of late s (L.Order o) = order_tests late s.orders.count o
 
 -- 3, "kind earlier than the line above allows", is one test for all kinds
 unfoldable pub kind_tests : SheetLines → Line → LineTests
-kind_tests s l = tests_of (leb s.above (kind l)) s l
+kind_tests s l = tests_of (late_enough s.above (kind l)) s l
 
 -- ---- "There is one reading call per form, and a line of the other form gives 1"
 
@@ -62,7 +63,7 @@ line_fault form line s l = passed (of_form form l) (Malformed line) (first_fault
 
 -- the kinds that only the window form has
 abbrev pub windows_complete : Form → SheetLines → Bool
-windows_complete form s = not (by_windows form) || (leb 1 s.gap_count && leb 1 s.windows.count)
+windows_complete form s = not (by_windows form) || (is_some s.gap && leb 1 s.windows.count)
 
 abbrev pub complete : Form → SheetLines → Bool
 complete form s = windows_complete form s && leb 1 s.trains.count && leb 1 s.orders.count

@@ -1,69 +1,59 @@
 // What the lines so far say, with one line more.
 ghost use Rattle.std.specs.Prelude.{◌≡◌};
-ghost use Rattle.gather.specs.SheetLines.{OneMore, kind, no_lines, with_line};
+ghost use Rattle.gather.specs.SheetLines.{kind};
 
-use crate::SheetLines;
+use crate::{Kind, SheetLines};
 use lines::Line;
-use rows::order_lines::{no_orders, with_order};
-use rows::train_lines::{no_trains, with_fixed_train, with_train};
-use rows::window_lines::{no_windows, with_window};
+use rows::{OrderRows, TrainRows, WindowRows};
 
-pub fn no_lines() -> SheetLines
-    ensures { result ≡ no_lines }
-{
-    let windows = no_windows();
-    let trains = no_trains();
-    let orders = no_orders();
-    SheetLines {
-        above: 0,
-        gap_count: 0,
-        gap: 0,
-        windows,
-        trains,
-        orders,
-    }
-}
-
-// A line's kind, by its place in the order G, W, T or X, O.
-pub fn kind_of(read: Line) -> u32
+// The kind of a line.
+pub fn kind_of(read: Line) -> Kind
     ensures { result ≡ kind read }
 {
     match read {
-        Line::Gap(_) => 1,
-        Line::Window(_) => 2,
-        Line::Train(_) => 3,
-        Line::FixedTrain(_) => 3,
-        Line::Order(_) => 4,
+        Line::Gap(_) => Kind::Gap,
+        Line::Window(_) => Kind::Window,
+        Line::Train(_) | Line::FixedTrain(_) => Kind::Train,
+        Line::Order(_) => Kind::Order,
     }
 }
 
-pub fn with_line(lines: SheetLines, read: Line) -> SheetLines
-    requires { OneMore lines read }
-    ensures { result ≡ with_line lines read }
-{
-    let mut next = lines;
-    next.above = kind_of(read);
-    match read {
-        Line::Gap(g) => {
-            next.gap_count = 1;
-            next.gap = g.gap;
-        }
-        Line::Window(w) => {
-            let rows = next.windows;
-            next.windows = with_window(rows, w);
-        }
-        Line::Train(t) => {
-            let rows = next.trains;
-            next.trains = with_train(rows, t);
-        }
-        Line::FixedTrain(t) => {
-            let rows = next.trains;
-            next.trains = with_fixed_train(rows, t);
-        }
-        Line::Order(o) => {
-            let rows = next.orders;
-            next.orders = with_order(rows, o);
+// No lines yet.
+impl Default for SheetLines {
+    ghost use Rattle.std.specs.Prelude.{◌≡◌};
+    ghost use Rattle.gather.specs.SheetLines.{no_lines};
+
+    ghost is_default = { λ lines. lines ≡ no_lines };
+
+    #[tactic(auto, unfolding(crate::specs::SheetLines::no_lines))]
+    fn default() -> SheetLines {
+        SheetLines {
+            above: None,
+            gap: None,
+            windows: WindowRows::default(),
+            trains: TrainRows::default(),
+            orders: OrderRows::default(),
         }
     }
-    next
+}
+
+impl SheetLines {
+    ghost use Rattle.std.specs.Prelude.{◌≡◌};
+    ghost use Rattle.gather.specs.SheetLines.{OneMore, with_line};
+
+    // One line more.
+    #[tactic(auto, unfolding(crate::specs::SheetLines::with_line))]
+    pub fn push(&mut self, read: Line)
+        requires { OneMore self.old read }
+        ensures { self.new ≡ with_line self.old read }
+    {
+        self.above = Some(kind_of(read));
+        match read {
+            Line::Gap(g) => self.gap = Some(g.gap),
+            Line::Window(w) => self.windows.push(w),
+            Line::Train(t) => self.trains.push(t),
+            Line::FixedTrain(t) => self.trains.push_fixed(t),
+            Line::Order(o) => self.orders.push(o),
+        }
+    }
 }

@@ -6,32 +6,35 @@ use crate::LineTests;
 use model::Refusal;
 
 // The first fault of a line among 3, 4, 2 and 6.
+#[tactic(auto, unfolding(crate::specs::Faults::first_fault))]
 pub fn first_fault(line: usize, tests: LineTests) -> Result<(), Refusal>
     ensures { result ≡ first_fault line tests }
 {
-    if tests.late_enough {
-        if tests.few {
-            if tests.in_range {
-                if tests.in_order {
-                    return Ok(());
-                }
-                return Err(Refusal::OutOfOrder(line));
-            }
-            return Err(Refusal::OutOfRange(line));
-        }
+    if !tests.late_enough {
+        return Err(Refusal::KindTooEarly(line));
+    }
+    if !tests.few {
         return Err(Refusal::TooMany(line));
     }
-    Err(Refusal::KindTooEarly(line))
+    if !tests.in_range {
+        return Err(Refusal::OutOfRange(line));
+    }
+    if !tests.in_order {
+        return Err(Refusal::OutOfOrder(line));
+    }
+    Ok(())
 }
 
+// The first fault of a text after its last line, of 5 and 7.
+#[tactic(auto, unfolding(crate::specs::Faults::last_fault))]
 pub fn last_fault(complete: bool, roomy: bool) -> Result<(), Refusal>
     ensures { result ≡ last_fault complete roomy }
 {
-    if complete {
-        if roomy {
-            return Ok(());
-        }
+    if !complete {
+        return Err(Refusal::KindMissing);
+    }
+    if !roomy {
         return Err(Refusal::TooFewPlaces);
     }
-    Err(Refusal::KindMissing)
+    Ok(())
 }

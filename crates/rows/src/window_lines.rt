@@ -1,66 +1,51 @@
 // W lines.
-ghost use Rattle.std.specs.Prelude.{◌≡◌, ◌≤◌, ◌<◌};
-ghost use Rattle.model.specs.Limits.{window_counts};
-ghost use Rattle.rows.specs.WindowLines.{no_windows, window_in_range, window_in_order, window_tests, with_window};
-
 use crate::{LineTests, WindowRows};
 use lines::Window;
 use model::limits::{LAST_INSTANT, MOST_WINDOWS, in_range};
 
-pub fn no_windows() -> WindowRows
-    ensures { result ≡ no_windows }
-{
-    WindowRows {
-        count: 0,
-        from: [0; MOST_WINDOWS],
-        to: [0; MOST_WINDOWS],
+impl Default for WindowRows {
+    ghost use Rattle.std.specs.Prelude.{◌≡◌};
+    ghost use Rattle.rows.specs.WindowLines.{no_windows};
+
+    ghost is_default = { λ rows. rows ≡ no_windows };
+
+    #[tactic(auto, unfolding(crate::specs::WindowLines::no_windows))]
+    fn default() -> WindowRows {
+        WindowRows {
+            count: 0,
+            from: [0; MOST_WINDOWS],
+            to: [0; MOST_WINDOWS],
+        }
     }
 }
 
-fn window_in_range(w: Window) -> bool
-    ensures { result ≡ window_in_range w }
-{
-    in_range(0, LAST_INSTANT, w.from) & in_range(0, LAST_INSTANT, w.to)
-}
+impl WindowRows {
+    ghost use Rattle.std.specs.Prelude.{◌≡◌, ◌≤◌, ◌<◌};
+    ghost use Rattle.model.specs.Limits.{window_counts};
+    ghost use Rattle.rows.specs.WindowLines.{window_tests, with_window};
 
-fn window_in_order(count: usize, to: [u32; MOST_WINDOWS], w: Window) -> bool
-    requires { count ≤ window_counts.most }
-    ensures { result ≡ window_in_order count to w }
-{
-    if w.to < w.from {
-        return false;
+    // The tests of a W line after these.
+    pub fn tests(&self, late_enough: bool, w: Window) -> LineTests
+        requires { self.now.count ≤ window_counts.most }
+        ensures { result ≡ window_tests late_enough self.now w }
+    {
+        let count = self.count;
+        LineTests {
+            late_enough,
+            few: count < MOST_WINDOWS,
+            in_range: in_range(0, LAST_INSTANT, w.from) && in_range(0, LAST_INSTANT, w.to),
+            in_order: w.from <= w.to && (count == 0 || self.to[count - 1] < w.from),
+        }
     }
-    if count == 0 {
-        return true;
-    }
-    let last = count - 1;
-    to[last] < w.from
-}
 
-pub fn window_tests(late_enough: bool, rows: WindowRows, w: Window) -> LineTests
-    requires { rows.count ≤ window_counts.most }
-    ensures { result ≡ window_tests late_enough rows w }
-{
-    let count = rows.count;
-    let to = rows.to;
-    let in_range = window_in_range(w);
-    let in_order = window_in_order(count, to, w);
-    LineTests {
-        late_enough,
-        few: count < MOST_WINDOWS,
-        in_range,
-        in_order,
+    // One window more.
+    pub fn push(&mut self, w: Window)
+        requires { self.old.count < window_counts.most }
+        ensures { self.new ≡ with_window self.old w }
+    {
+        let at = self.count;
+        self.from[at] = w.from;
+        self.to[at] = w.to;
+        self.count += 1;
     }
-}
-
-pub fn with_window(rows: WindowRows, w: Window) -> WindowRows
-    requires { rows.count < window_counts.most }
-    ensures { result ≡ with_window rows w }
-{
-    let at = rows.count;
-    let mut next = rows;
-    next.from[at] = w.from;
-    next.to[at] = w.to;
-    next.count = at + 1;
-    next
 }
