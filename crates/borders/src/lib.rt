@@ -7,6 +7,7 @@ ghost use Rattle.model.specs.Memory.{sheet_of, from_windows, to_windows, from_ti
 ghost use Rattle.model.specs.declared.Form.{Form as FormOf};
 ghost use Rattle.model.specs.declared.Form.TheVariants as form;
 ghost use Rattle.model.specs.declared.Sheet.{Sheet as SheetInMemory};
+ghost use Rattle.std.proofs.Common.{rules};
 
 use model::limits::{MOST_TRAINS, MOST_WINDOWS};
 use model::{Form, Sheet, TimetableSheet, WindowSheet};
@@ -36,6 +37,9 @@ pub trait SheetOfForm: AnySheet {
     // The columns of that form; those of the other are left out.
     fn of_sheet(sheet: Sheet) -> Self
         ensures { result ≡ columns_of sheet };
+
+    // Of a sheet of that form they mean the same.
+    ghost keeps: { (s : SheetInMemory) → s.form ≡ form → Self.meant (columns_of s) ≡ sheet_of s };
 }
 
 impl AnySheet for Sheet {
@@ -126,6 +130,8 @@ impl SheetOfForm for WindowSheet {
 
     ghost columns_of = { to_windows };
 
+    ghost keeps = { λ s e. Prim.search rules };
+
     fn form() -> Form {
         Form::Windows
     }
@@ -165,6 +171,8 @@ impl SheetOfForm for TimetableSheet {
     ghost form = { form.Timetable };
 
     ghost columns_of = { to_timetable };
+
+    ghost keeps = { λ s e. Prim.search rules };
 
     fn form() -> Form {
         Form::Timetable

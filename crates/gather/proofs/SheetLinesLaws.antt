@@ -67,7 +67,8 @@ module _ (line : ℕ) (s : SheetLines) where
   unfolding line_fault with_line
   lines_more form l e h = go form _ l e (no_line_fault form l e) h
     where
-      go : (form : Form) (late : Bool) (l : Line) → line_fault form line s l ≡ Ok tt → NoFault (tests_of late s l) → Good form s → Good form (with_line s l)
+      go : (form : Form) (late : Bool) (l : Line) → line_fault form line s l ≡ Ok tt → NoFault (tests_of late s l) → Good form s
+          → Good form (with_line s l)
       go form late (L.Gap g) e k h =
           record { orders = h.orders; gap = λ l. gap_in_range late s.gap g k; windows = h.windows; trains = h.trains; paths = h.paths }
       go form late (L.Window w) e k h =

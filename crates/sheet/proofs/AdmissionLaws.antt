@@ -13,9 +13,11 @@ use Rattle.model.specs.declared.Form.TheVariants.{Windows, Timetable}
 use Rattle.rows.proofs.FaultLaws.{no_last_fault}
 use Rattle.rows.proofs.ColumnLaws.{rows_numbered, steps_numbered, column_numbered}
 use Rattle.gather.specs.Tests.{windows_complete, complete, end_fault}
-use Rattle.sheet.specs.Reading.{read_from}
+use Rattle.std.specs.Option.{is_some}
+use Rattle.model.specs.declared.Sheet.{Sheet}
+use Rattle.sheet.specs.declared.Reading.{Reading}
 use Rattle.gather.proofs.SheetLinesLaws.{Good}
-use Rattle.sheet.proofs.TextLaws.{text_good}
+use Rattle.sheet.proofs.TextLaws.{read_holds}
 use Rattle.sheet.specs.Sheets.{sheet_from, reading}
 use Rattle.rows.proofs.WindowLaws.{Ends}
 use Rattle.rows.proofs.TrainLaws.{TrainTimes}
@@ -32,13 +34,13 @@ paths_admitted : (form : Form) (s : SheetLines) → Good form s → windows_comp
 unfolding sheet_from
 paths_admitted Windows s h e =
     let v = s.windows.count in
-    let (gap, some) = and_true (leb 1 s.gap_count) (leb 1 v) e in
+    let (gap, some) = and_true (is_some s.gap) (leb 1 v) e in
     record {
       few = h.windows.few;
       some = leb-true 1 v some;
       within_range =
           record {
-            gap = h.gap (leb-true 1 s.gap_count gap);
+            gap = h.gap gap;
             windows = λ m l k.
                 let ends = rows_numbered Ends s.windows.from s.windows.to v h.windows.ends m l k in
                 record { from = ends.0; to = ends.1 };
@@ -66,7 +68,7 @@ paths_admitted Timetable s h e =
           };
     }
 
-lines_admitted : (form : Form) (s : SheetLines) → Good form s → end_fault form s ≡ Ok tt → Admitted (sheet_of (sheet_from form s))
+pub lines_admitted : (form : Form) (s : SheetLines) → Good form s → end_fault form s ≡ Ok tt → Admitted (sheet_of (sheet_from form s))
 unfolding sheet_from end_fault
 lines_admitted form s h e =
     let q = s.trains.count in
@@ -89,6 +91,5 @@ lines_admitted form s h e =
     }
 
 -- WHAT IS READ IS ADMITTED
-pub read_admitted : (form : Form) (text : List ℕ) → (reading form text).admission ≡ Ok tt → Admitted (sheet_of (reading form text).sheet)
-unfolding reading
-read_admitted form text e = lines_admitted form (read_from form text 0).lines (text_good form text 0).lines.0 ((text_good form text 0).ended e)
+pub read_admitted : (form : Form) (text : List ℕ) (r : Reading Sheet) → reading form text ≡ Ok r → Admitted (sheet_of r.sheet)
+read_admitted form text = read_holds form text (λ r. Admitted (sheet_of r.sheet)) (λ s good named ended. lines_admitted form s good ended)

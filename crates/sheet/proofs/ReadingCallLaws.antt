@@ -1,51 +1,52 @@
 -- WHAT THE DEFINITIONS READ IS WHAT A READING CALL PROMISES. Assumes nothing.
-use Rattle.std.specs.Prelude.{◌≡◌, refl, List, ℕ}
-use Rattle.std.proofs.Common.{sym, subst}
-use Rattle.model.specs.Memory.{sheet_of, window_sheet, timetable_sheet}
+use Rattle.std.specs.Prelude.{◌≡◌, refl, Result, Ok, Err, List, ℕ}
+use Rattle.std.proofs.Common.{sym, ap, subst, ◌∙◌}
+use Rattle.model.specs.Sheet.{Sheet}
+use Rattle.model.specs.Memory.{sheet_of}
+use Rattle.model.specs.Admission.{Admitted}
 use Rattle.model.specs.declared.Form.{Form}
-use Rattle.model.specs.declared.Form.TheVariants.{Windows, Timetable}
-use Rattle.rows.specs.OrderLines.{no_orders}
-use Rattle.gather.specs.SheetLines.{no_lines}
-use Rattle.sheet.specs.Sheets.{sheet_from, names_from, reading, window_reading, timetable_reading}
+use Rattle.model.specs.declared.Refusal.{Refusal}
+use Rattle.model.specs.declared.Sheet as memory
+use Rattle.fields.specs.NamePlaces.{NamesLie}
+use Rattle.sheet.specs.Reading.{read_from}
+use Rattle.sheet.specs.Sheets.{sheet_from, names_from, reading_of, reading_as, reading}
 use Rattle.sheet.specs.ReadingCall.{ReadingCall}
-use Rattle.sheet.proofs.AdmissionLaws.{read_admitted}
-use Rattle.sheet.proofs.RefusedLaws.{refused_sheet}
+use Rattle.sheet.proofs.AdmissionLaws.{lines_admitted}
+use Rattle.sheet.proofs.TextLaws.{made_of, refused_of, reading_holds}
 use Rattle.sheet.proofs.ReturnedLaws.{text_refusal}
-use Rattle.sheet.proofs.NameLaws.{names_lie}
 use Rattle.sheet.specs.declared.Reading.{Reading}
-use Rattle.sheet.specs.declared.WindowReading.{WindowReading}
-use Rattle.sheet.specs.declared.TimetableReading.{TimetableReading}
 
--- of what any call gives that holds the reading of a form
-module _ {R : Type 0} (form : Form) (text : List ℕ) (r : R) where
-  reading_holds : ReadingCall text r r (reading form text).admission (sheet_of (reading form text).sheet) (reading form text).names
-  unfolding reading sheet_from names_from no_lines no_orders
-  reading_holds =
+-- of a call that gives the struct of a form, which means what the sheet in memory does
+module _ {S : Type 0} (meant : S → Sheet) (columns : memory.Sheet → S) (form : Form)
+    (keeps : (s : memory.Sheet) → s.form ≡ form → meant (columns s) ≡ sheet_of s) (text : List ℕ) where
+  pub reads_as : (x : Result (Reading S) Refusal) → x ≡ reading_as columns form text → ReadingCall meant text (reading_as columns form text) x
+  unfolding reading_as sheet_from names_from
+  reads_as x e =
       record {
-        equal = refl;
-        admitted = read_admitted form text;
-        refused = text_refusal form text;
-        no_sheet = λ f e. rw (refused_sheet form text f e) (refl, refl);
-        named = refl;
-        names_lie = names_lie form text;
+        equal = e;
+        admitted = λ r f.
+            reading_holds columns form text (λ r. Admitted (meant r.sheet))
+            (λ s good named ended. subst Admitted (sym (keeps (sheet_from form s) refl)) (lines_admitted form s good ended)) r (sym e ∙ f);
+        refused = λ r f. text_refusal form text r (refused_of columns form (read_from form text 0) r (sym e ∙ f));
+        named = λ r f.
+            reading_holds columns form text (λ r. r.names.count ≡ (meant r.sheet).orders)
+            (λ s good named ended. ap (λ (t : Sheet). t.orders) (sym (keeps (sheet_from form s) refl))) r (sym e ∙ f);
+        names_lie = λ r f.
+            reading_holds columns form text (λ r. NamesLie text r.names)
+            (λ s good named ended. record { few = good.orders.few; names = named }) r (sym e ∙ f);
       }
 
-pub reads : (form : Form) (text : List ℕ) (r : Reading) → r ≡ reading form text
-    → ReadingCall text (reading form text) r r.admission (sheet_of r.sheet) r.names
-reads form text r e =
-    subst (λ (x : Reading). ReadingCall text (reading form text) x x.admission (sheet_of x.sheet) x.names) (sym e)
-    (reading_holds form text (reading form text))
+  -- it is made of what the call gives that gives the sheet in memory
+  pub columns_read : (r : Reading memory.Sheet) → reading form text ≡ Ok r → reading_as columns form text ≡ Ok (record { sheet = columns r.sheet; names = r.names })
+  unfolding reading_as reading
+  columns_read r e = let (s, of, made) = made_of (λ s. s) form (read_from form text 0) r e in
+      ap (reading_of columns form) of ∙ ap (λ (r : Reading memory.Sheet). Ok (record { sheet = columns r.sheet; names = r.names })) (sym made)
 
-pub reads_windows : (text : List ℕ) (r : WindowReading) → r ≡ window_reading text
-    → ReadingCall text (window_reading text) r r.admission (window_sheet r.sheet) r.names
-unfolding window_reading reading sheet_from
-reads_windows text r e =
-    subst (λ (x : WindowReading). ReadingCall text (window_reading text) x x.admission (window_sheet x.sheet) x.names) (sym e)
-    (reading_holds Windows text (window_reading text))
+  pub columns_refused : (r : Refusal) → reading form text ≡ Err r → reading_as columns form text ≡ Err r
+  unfolding reading_as reading
+  columns_refused r e = ap (reading_of columns form) (refused_of (λ s. s) form (read_from form text 0) r e)
 
-pub reads_timetable : (text : List ℕ) (r : TimetableReading) → r ≡ timetable_reading text
-    → ReadingCall text (timetable_reading text) r r.admission (timetable_sheet r.sheet) r.names
-unfolding timetable_reading reading sheet_from
-reads_timetable text r e =
-    subst (λ (x : TimetableReading). ReadingCall text (timetable_reading text) x x.admission (timetable_sheet x.sheet) x.names) (sym e)
-    (reading_holds Timetable text (timetable_reading text))
+pub reads : (form : Form) (text : List ℕ) (x : Result (Reading memory.Sheet) Refusal) → x ≡ reading form text
+    → ReadingCall sheet_of text (reading form text) x
+unfolding reading
+reads form text x e = reads_as sheet_of (λ s. s) form (λ s e. refl) text x e

@@ -1,5 +1,5 @@
 -- DOCUMENT 01, "THE SHEET": "The reader walks the caller's text line by line and keeps its position", "Reading takes lines from the top".
-use Rattle.std.specs.Prelude.{cond, List, ℕ, zero, suc, ◌+◌, ltb, length}
+use Rattle.std.specs.Prelude.{Result, Ok, Err, cond, List, ℕ, zero, suc, ◌+◌, ltb, length}
 use Rattle.model.specs.declared.Refusal.{Refusal}
 use Rattle.lines.specs.Lines.{line_at}
 use Rattle.gather.specs.Tests.{line_fault, end_fault}
@@ -7,36 +7,29 @@ use Rattle.gather.specs.SheetLines.{no_lines, with_line}
 use Rattle.model.specs.declared.Form.{Form}
 use Rattle.lines.specs.declared.Line.{Line}
 use Rattle.lines.specs.declared.LineAt.{LineAt}
-use Rattle.lines.specs.declared.LineAt.TheVariants as L
-use Rattle.std.specs.Prelude.{Ok, Err}
 use Rattle.model.specs.Replies.{Admission}
 use Rattle.gather.specs.declared.SheetLines.{SheetLines}
-use Rattle.sheet.specs.declared.SheetText.{SheetText}
 
 -- all lines together, or the first refusal; "no sheet is given" then
-abbrev pub taken : SheetLines → SheetText
-taken s = record { admission = (Ok tt); lines = s }
+abbrev pub SheetText : Type 0
+SheetText = Result SheetLines Refusal
 
-unfoldable pub refused : Refusal → SheetText
-unfolding no_lines
-refused r = record { admission = Err r; lines = no_lines }
-
-abbrev pub on_line : LineAt → (Line → ℕ → SheetText) → SheetText
-on_line (L.Read l next) rest = rest l next
-on_line (L.Refused r) rest = refused r
+abbrev pub on_line : Result LineAt Refusal → (Line → ℕ → SheetText) → SheetText
+on_line (Ok l) rest = rest l.line l.next
+on_line (Err r) rest = Err r
 
 abbrev pub on_admission : Admission → SheetText → SheetText
 on_admission (Ok _) rest = rest
-on_admission (Err r) rest = refused r
+on_admission (Err r) rest = Err r
 
 -- the lines from position p on, after those that gave s; the next has the number `line`. No more than n lines are left.
 unfoldable pub read_lines : Form → ℕ → List ℕ → ℕ → ℕ → SheetLines → SheetText
 unfolding line_at line_fault with_line end_fault
-read_lines form zero text p line s = on_admission (end_fault form s) (taken s)
+read_lines form zero text p line s = on_admission (end_fault form s) (Ok s)
 read_lines form (suc n) text p line s =
     cond (ltb p (length text))
     (on_line (line_at text p line) (λ l next. on_admission (line_fault form line s l) (read_lines form n text next (line + 1) (with_line s l))))
-    (on_admission (end_fault form s) (taken s))
+    (on_admission (end_fault form s) (Ok s))
 
 -- the lines from position p on, the first of them number 1; there are no more lines than bytes (ReadingLaws: one-more-bound)
 unfoldable pub read_from : Form → List ℕ → ℕ → SheetText
@@ -45,9 +38,9 @@ read_from form text p = read_lines form (length text) text p 1 no_lines
 
 -- ---- the lines of a text with no test but that each is a line, up to its end or to what is none
 
-abbrev pub on_next : LineAt → SheetLines → (Line → ℕ → SheetLines) → SheetLines
-on_next (L.Read l next) s rest = rest l next
-on_next (L.Refused r) s rest = s
+abbrev pub on_next : Result LineAt Refusal → SheetLines → (Line → ℕ → SheetLines) → SheetLines
+on_next (Ok l) s rest = rest l.line l.next
+on_next (Err r) s rest = s
 
 -- those from position p on, as in `read_lines`
 unfoldable pub all_lines : ℕ → List ℕ → ℕ → ℕ → SheetLines → SheetLines

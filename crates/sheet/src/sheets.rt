@@ -7,6 +7,7 @@ use gather::SheetLines;
 use model::{Form, Sheet};
 use rows::{OrderRows, TrainRows, WindowRows};
 
+#[tactic(auto, unfolding(crate::specs::Sheets::sheet_from))]
 pub fn sheet_from(form: Form, lines: SheetLines) -> Sheet
     ensures { result ≡ sheet_from form lines }
 {
@@ -38,7 +39,7 @@ pub fn sheet_from(form: Form, lines: SheetLines) -> Sheet
     } = orders;
     Sheet {
         form,
-        gap,
+        gap: gap.unwrap_or(0),
         window_count,
         window_from,
         window_to,
@@ -54,6 +55,7 @@ pub fn sheet_from(form: Form, lines: SheetLines) -> Sheet
     }
 }
 
+#[tactic(auto, unfolding(crate::specs::Sheets::names_from))]
 pub fn names_from(lines: SheetLines) -> NamePlaces
     ensures { result ≡ names_from lines }
 {

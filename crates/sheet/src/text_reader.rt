@@ -2,9 +2,10 @@
 ghost use Rattle.std.specs.Prelude.{◌≡◌};
 ghost use Rattle.sheet.specs.Reading.{read_from};
 
+use crate::Reader;
 use crate::walk::lines_from;
-use crate::{Reader, SheetText};
-use model::Form;
+use gather::SheetLines;
+use model::{Form, Refusal};
 
 // A reader at the first line.
 fn open<'a>(text: &'a [u8]) -> Reader<'a>
@@ -14,14 +15,14 @@ fn open<'a>(text: &'a [u8]) -> Reader<'a>
 }
 
 // The lines from the reader's position on.
-fn rest<'a>(reader: Reader<'a>, form: Form) -> SheetText
+fn rest<'a>(reader: Reader<'a>, form: Form) -> Result<SheetLines, Refusal>
     ensures { result ≡ read_from form reader.entry.text.now reader.entry.at }
 {
     lines_from(reader.text, reader.at, form)
 }
 
 // All lines of a text.
-pub fn whole(text: &[u8], form: Form) -> SheetText
+pub fn whole(text: &[u8], form: Form) -> Result<SheetLines, Refusal>
     ensures { result ≡ read_from form text.now 0 }
 {
     rest(open(text), form)

@@ -1,12 +1,20 @@
 -- `order_name_place` meets its contract: it is the place of that name among all. Assumes nothing.
-use mathlib.Core.Path.{ap, ◌∙◌}
-use Rattle.fields.specs.NamePlaces.{name_at, place_of}
-use Rattle.sheet.specs.OrderNames.{name_in}
+use Rattle.std.proofs.Common.{Result, sym, ap, ◌∙◌, rules}
+use Rattle.model.specs.declared.Refusal.{Refusal}
+use Rattle.model.specs.declared.Sheet.{Sheet}
+use Rattle.fields.specs.NamePlaces.{place_of}
+use Rattle.sheet.specs.OrderNames.{name_read, name_in}
 use Rattle.sheet.specs.declared.Reading.{Reading}
+use Rattle.sheet.proofs.RefusedLaws.{refused_name}
 use Rattle.sheet.proofs.order_name_place.Goals as goal
 
-pub returns : goal.returns
+pub returns-in-Ok : goal.returns-in-Ok
 unfolding name_in
-returns c =
-    let order = c.args.order in
-    c.name_place.ensures ∙ ap (λ (x : Reading). place_of (name_at x.names order)) c.read-found.ensures.equal
+returns-in-Ok c =
+    let a = c.args in
+    c.name_place.ensures ∙ ap (λ (x : Result (Reading Sheet) Refusal). place_of (name_read x a.order)) c.in-Ok.ensures.equal
+
+pub returns-in-Err : goal.returns-in-Err
+returns-in-Err c =
+    let a = c.args in
+    rw (refused_name a.form a.text.now _ a.order (sym c.in-Err.ensures.equal)) (search rules)
