@@ -1,6 +1,6 @@
 -- THE CONTRACT OF A CHECKING CALL on the sheet s and a foreign plan, rows of departures and rows of order and train, with the reply r, and the pairs area as
 -- left and as found.
-use Rattle.std.specs.Prelude.{◌≡◌, ◌↔◌, ◌⊎◌, Bool, true, List, ℕ, ◌≤◌, ◌<◌, ℤ, length}
+use Rattle.std.specs.Prelude.{◌≡◌, ◌↔◌, ◌⊎◌, Bool, true, List, ℕ, ◌≤◌, ◌<◌, ℤ}
 use Rattle.model.specs.Sheet.{Sheet, places}
 use Rattle.model.specs.Schedule.{Schedule}
 use Rattle.model.specs.Lateness.{Pair, pair_of, pair_at}
@@ -15,8 +15,6 @@ use Rattle.rounds.specs.Checking.{check_to}
 use Rattle.rounds.specs.Told.{CheckTold}
 use Rattle.rounds.specs.ListedPairs.{Front}
 use Rattle.planner.specs.InAreas.{pairs_in}
-use Rattle.foreign.specs.Gathered.{gathered}
-use Rattle.foreign.specs.declared.Given.{Given}
 
 -- what is told of a plan that is a schedule
 pub record SaysYes (r : CheckReply) : Type 0 where

@@ -11,15 +11,12 @@ fn is_listed(pairs: &[i64], count: usize, last: u32, worst: i64) -> bool
     requires { numbers_a_pair * count ≤ length pairs.now }
     ensures { result ≡ listed_in pairs.now last worst count }
 {
-    let arrival = last as i64;
+    let arrival = i64::from(last);
     let mut listed = false;
-    let mut k: usize = 0;
-    while k < count {
+    for k in 0..count {
         let other = pairs[NUMBERS_A_PAIR * k];
         let late = pairs[NUMBERS_A_PAIR * k + 1];
-        let arrives = (other <= arrival) & (arrival <= other);
-        listed = (arrives & ((late <= worst) & (worst <= late))) | listed;
-        k += 1;
+        listed = ((other == arrival) & (late == worst)) | listed;
     }
     listed
 }

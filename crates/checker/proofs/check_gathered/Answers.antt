@@ -1,8 +1,7 @@
 -- `checker::check_gathered` meets its contract: the first of the tests of listing that fails, else 12 or 13, else the pair beside the list that `list` leaves.
 -- Assumes nothing.
-use Rattle.std.proofs.Common.{sym, ◌∙◌, rules, to_z-of_z, w64}
+use Rattle.std.proofs.Common.{sym, ◌∙◌}
 use Rattle.std.proofs.lemmas.Result.{err_from_is_err_and}
-use mir.Val.{SFits}
 use Rattle.model.specs.Memory.{sheet_of}
 use Rattle.room.proofs.CallLaws.{admitted}
 use Rattle.checker.proofs.JudgingLaws.{told_refused, told_broken, told_kept, in_area}

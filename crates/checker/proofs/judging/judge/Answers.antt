@@ -1,5 +1,5 @@
 -- `checker::judging::judge` meets its contract: each return is that of the first test that fails, or the pair of a schedule. Assumes nothing.
-use Rattle.std.proofs.Common.{sym, ap, ◌∙◌, rules, not}
+use Rattle.std.proofs.Common.{sym, ap, ◌∙◌, not}
 use Rattle.numbers.specs.DecidesLaws.{test_means}
 use Rattle.model.specs.Memory.{sheet_of}
 use Rattle.model.specs.Limits.{◌–◌}

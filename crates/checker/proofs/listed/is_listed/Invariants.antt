@@ -1,11 +1,7 @@
 -- `listed::is_listed` meets its contract: `listed` is the test of the pairs passed. Assumes nothing.
 use mathlib.Core.Path.{◌≡◌}
-use Prim.Native.Nat.{◌≤◌, ◌-◌}
 use Rattle.checker.specs.Judging.{listed_in}
 use Rattle.checker.proofs.listed.is_listed.Given as goal
 
 abbrev pub invariant-loop-k : goal.invariant-loop-k
-invariant-loop-k l = (l.k ≤ l.count) × (l.listed ≡ listed_in l.pairs l.last l.worst l.k)
-
-abbrev pub decreases-loop-k : goal.decreases-loop-k
-decreases-loop-k l = l.count - l.k
+invariant-loop-k l = l.listed ≡ listed_in l.pairs l.last l.worst l.k
