@@ -2,10 +2,9 @@
 #![tactic(auto)]
 
 ghost use Rattle.std.specs.Prelude.{◌≡◌};
-ghost use Rattle.checked.specs.ExportedChecking.{check_of};
 
-use exported::{Cause, cause_of};
-use model::Refusal;
+use exported::Cause;
+use model::{Checked, Refusal};
 
 // What checking a plan gives: its pair, last arrival and worst weighted lateness, whether that pair is listed, how many pairs are listed and how many rounds
 // were made; or the cause beside noughts.
@@ -20,34 +19,29 @@ pub struct Check {
     pub rounds: usize,
 }
 
-pub fn check_of(reply: Result<Checked, Refusal>) -> Check
-    ensures { result ≡ check_of reply }
-{
-    match reply {
-        CheckReply::Checked {
-            last,
-            worst,
-            listed,
-            pairs,
-            rounds,
-        } => Check {
-            cause: Cause {
-                number: 0,
-                returned: 0,
+impl From<Result<Checked, Refusal>> for Check {
+    ghost use Rattle.checked.specs.ExportedChecking.{check_of};
+
+    ghost from_gives = { λ reply check. check ≡ check_of reply };
+
+    fn from(reply: Result<Checked, Refusal>) -> Check {
+        match reply {
+            Ok(checked) => Check {
+                cause: Cause::NONE,
+                last: checked.last,
+                worst: checked.worst,
+                listed: checked.listed,
+                pairs: checked.pairs,
+                rounds: checked.rounds,
             },
-            last: last,
-            worst: worst,
-            listed: listed,
-            pairs: pairs,
-            rounds: rounds,
-        },
-        Err(refusal) => Check {
-            cause: cause_of(refusal),
-            last: 0,
-            worst: 0,
-            listed: false,
-            pairs: 0,
-            rounds: 0,
-        },
+            Err(refusal) => Check {
+                cause: refusal.into(),
+                last: 0,
+                worst: 0,
+                listed: false,
+                pairs: 0,
+                rounds: 0,
+            },
+        }
     }
 }

@@ -1,8 +1,7 @@
 // What a bound call returns.
 ghost use Rattle.std.specs.Prelude.{◌≡◌};
-ghost use Rattle.exported.specs.ExportedBound.{bound_of};
 
-use crate::{Cause, cause_of};
+use crate::Cause;
 use model::Refusal;
 
 // The figure that neither the rounds nor the pairs of any search of the sheet exceed, or the cause beside 0.
@@ -13,20 +12,21 @@ pub struct Bound {
     pub most: usize,
 }
 
-pub fn bound_of(reply: Result<usize, Refusal>) -> Bound
-    ensures { result ≡ bound_of reply }
-{
-    match reply {
-        BoundReply::Bounded { most } => Bound {
-            cause: Cause {
-                number: 0,
-                returned: 0,
+impl From<Result<usize, Refusal>> for Bound {
+    ghost use Rattle.exported.specs.ExportedBound.{bound_of};
+
+    ghost from_gives = { λ reply bound. bound ≡ bound_of reply };
+
+    fn from(reply: Result<usize, Refusal>) -> Bound {
+        match reply {
+            Ok(most) => Bound {
+                cause: Cause::NONE,
+                most,
             },
-            most: most,
-        },
-        Err(refusal) => Bound {
-            cause: cause_of(refusal),
-            most: 0,
-        },
+            Err(refusal) => Bound {
+                cause: refusal.into(),
+                most: 0,
+            },
+        }
     }
 }

@@ -5,8 +5,6 @@
 pub mod bounding;
 
 ghost use Rattle.std.specs.Prelude.{◌≡◌};
-ghost use Rattle.exported.specs.Exported.{cause_of, cause_in};
-ghost use Rattle.exported.specs.ExportedPlanning.{listing_of, choice_of};
 
 use model::{Listed, PlanPair, Refusal, TimetableSheet, WindowSheet};
 
@@ -52,65 +50,78 @@ pub struct Choice {
     pub worst: i64,
 }
 
-pub fn cause_of(refusal: Refusal) -> Cause
-    ensures { result ≡ cause_of refusal }
-{
-    let number = refusal.number();
-    let returned = refusal.returned();
-    Cause {
-        number: number,
-        returned: returned,
+impl Cause {
+    // That nothing is refused.
+    pub const NONE: Cause = Cause {
+        number: 0,
+        returned: 0,
+    };
+}
+
+impl From<Refusal> for Cause {
+    ghost use Rattle.exported.specs.Exported.{cause_of};
+
+    ghost from_gives = { λ refusal cause. cause ≡ cause_of refusal };
+
+    fn from(refusal: Refusal) -> Cause {
+        Cause {
+            number: refusal.number(),
+            returned: refusal.returned(),
+        }
     }
 }
 
-pub fn cause_in(admission: Result<(), Refusal>) -> Cause
-    ensures { result ≡ cause_in admission }
-{
-    match admission {
-        Ok(()) => Cause {
-            number: 0,
-            returned: 0,
-        },
-        Err(refusal) => cause_of(refusal),
+impl From<Result<(), Refusal>> for Cause {
+    ghost use Rattle.exported.specs.Exported.{cause_in};
+
+    ghost from_gives = { λ tested cause. cause ≡ cause_in tested };
+
+    fn from(tested: Result<(), Refusal>) -> Cause {
+        match tested {
+            Ok(()) => Cause::NONE,
+            Err(refusal) => Cause::from(refusal),
+        }
     }
 }
 
-pub fn listing_of(reply: Result<Listed, Refusal>) -> Listing
-    ensures { result ≡ listing_of reply }
-{
-    match reply {
-        ListReply::Listed { pairs, rounds } => Listing {
-            cause: Cause {
-                number: 0,
-                returned: 0,
+impl From<Result<Listed, Refusal>> for Listing {
+    ghost use Rattle.exported.specs.ExportedPlanning.{listing_of};
+
+    ghost from_gives = { λ reply listing. listing ≡ listing_of reply };
+
+    fn from(reply: Result<Listed, Refusal>) -> Listing {
+        match reply {
+            Ok(listed) => Listing {
+                cause: Cause::NONE,
+                pairs: listed.pairs,
+                rounds: listed.rounds,
             },
-            pairs: pairs,
-            rounds: rounds,
-        },
-        Err(refusal) => Listing {
-            cause: cause_of(refusal),
-            pairs: 0,
-            rounds: 0,
-        },
+            Err(refusal) => Listing {
+                cause: refusal.into(),
+                pairs: 0,
+                rounds: 0,
+            },
+        }
     }
 }
 
-pub fn choice_of(reply: Result<PlanPair, Refusal>) -> Choice
-    ensures { result ≡ choice_of reply }
-{
-    match reply {
-        ChoiceReply::Chosen { last, worst } => Choice {
-            cause: Cause {
-                number: 0,
-                returned: 0,
+impl From<Result<PlanPair, Refusal>> for Choice {
+    ghost use Rattle.exported.specs.ExportedPlanning.{choice_of};
+
+    ghost from_gives = { λ reply choice. choice ≡ choice_of reply };
+
+    fn from(reply: Result<PlanPair, Refusal>) -> Choice {
+        match reply {
+            Ok(pair) => Choice {
+                cause: Cause::NONE,
+                last: pair.last,
+                worst: pair.worst,
             },
-            last: last,
-            worst: worst,
-        },
-        Err(refusal) => Choice {
-            cause: cause_of(refusal),
-            last: 0,
-            worst: 0,
-        },
+            Err(refusal) => Choice {
+                cause: refusal.into(),
+                last: 0,
+                worst: 0,
+            },
+        }
     }
 }

@@ -20,7 +20,7 @@ module _ (s : Sheet) (lent : SearchAreas) where
   -- each call leaves what the next one asks for
   pub left_by : {calls : Calls} {state : State} {left : SearchAreas} → Made s lent calls state left → LeftBy s lent calls state left
   unfolding search_by
-  left_by (starts c granted) = c.begins granted
+  left_by (starts {x = x} c granted) = c.begins x granted
   left_by (moves m c) = c.moves lent _ (left_by m)
   left_by (looks m c) =
       let h = left_by m in

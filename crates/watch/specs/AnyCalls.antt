@@ -20,7 +20,7 @@ use Rattle.watch.specs.declared.Moved.{Moved}
 -- calls that were made, each by its contract: "each of its calls is given the same ones and the state that the call before gave back". The state and the areas
 -- are those after the last one.
 pub data Made (s : Sheet) (lent : SearchAreas) : Calls → State → SearchAreas → Type 0 where
-  starts : {r : Result State Refusal} → StartCall s lent r → {x : State} → r ≡ Ok x → Made s lent started x lent
+  starts : {r : Result State Refusal} {x : State} → StartCall s lent r → r ≡ Ok x → Made s lent started x lent
   moves : {calls : Calls} {state : State} {found left : SearchAreas} {r : Moved} → Made s lent calls state found → RoundCall s state r left found
       → Made s lent (then_round calls) r.state left
   looks : {calls : Calls} {state : State} {found : SearchAreas} {count : ℕ} → Made s lent calls state found → LookCall state found.pairs count

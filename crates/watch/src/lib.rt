@@ -3,7 +3,7 @@
 #![tactic(auto)]
 
 mod fit;
-mod keeping;
+pub mod keeping;
 pub mod look;
 pub mod round;
 pub mod start;

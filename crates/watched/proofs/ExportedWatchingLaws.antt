@@ -11,11 +11,10 @@ use Rattle.model.specs.declared.RoundReply.TheVariants.{GoesOn, Ended, Refused}
 use Rattle.rounds.specs.ByRound.{SearchAreas}
 use Rattle.watch.specs.Calls.{StartCall, RoundCall}
 use Rattle.watch.specs.declared.State.{State}
-use Rattle.watch.specs.declared.Started.{Started}
 use Rattle.watch.specs.declared.Moved.{Moved}
 use Rattle.exported.specs.Exported.{cause_in}
 use Rattle.exported.proofs.ExportedLaws.{numbered}
-use Rattle.watched.specs.ExportedWatching.{start_of, round_told, round_of, ExportedStart, ExportedRound}
+use Rattle.watched.specs.ExportedWatching.{start_of, started_so, round_told, round_of, ExportedStart, ExportedRound}
 use Rattle.watched.specs.declared.Start.{Start}
 use Rattle.watched.specs.declared.Round.{Round}
 
@@ -25,23 +24,29 @@ cause_in_is : (a : Admission) → cause_in a ≡ record { number = number_of a; 
 cause_in_is (Ok _) = refl
 cause_in_is (Err r) = refl
 
--- an answer without a number is accepted
-accepted : (a : Admission) → number_of a ≡ 0 → a ≡ Ok tt
-accepted (Ok _) e = refl
-accepted (Err r) e = absurd (omega (arith, numbered r))
-
-pub exported_start : (s : Sheet) (lent : SearchAreas) (x : Started) (r : Start) → StartCall s lent x → r ≡ start_of x → ExportedStart s lent r
-exported_start s lent x r call e =
-    let cause = ap (λ (p : Start). p.cause) e ∙ cause_in_is x.admission in
-    record {
-      equal = ap (λ (p : Start). p.cause) e ∙ ap cause_in call.equal;
-      call = rw e (subst (λ (a : Admission). StartCall s lent (record { admission = a; state = x.state })) call.equal call);
-      begins = λ u. rw e (call.begins (accepted x.admission (rw cause at u)));
-      beside = λ l. rw e (call.beside (rw cause at l));
-      no_eight = rw cause call.no_eight;
-      returns_zero = rw cause call.returns_zero;
-      seven = rw cause call.seven;
-    }
+pub exported_start : (s : Sheet) (lent : SearchAreas) (x : Result State Refusal) (r : Start) → StartCall s lent x → r ≡ start_of x → ExportedStart s lent r
+exported_start s lent (Ok state) r call e =
+    rw e
+    (record {
+      equal = ap cause_in call.equal;
+      call = subst (λ (a : Admission). StartCall s lent (started_so a state)) call.equal call;
+      begins = λ u. call.begins state refl;
+      beside = λ l. absurd (omega arith);
+      no_eight = call.no_eight;
+      returns_zero = call.returns_zero;
+      seven = call.seven;
+    })
+exported_start s lent (Err f) r call e =
+    rw e
+    (record {
+      equal = ap cause_in call.equal;
+      call = subst (λ (a : Admission). StartCall s lent (started_so a no_state)) call.equal call;
+      begins = λ u. absurd (omega (arith, numbered f));
+      beside = λ l. refl;
+      no_eight = call.no_eight;
+      returns_zero = call.returns_zero;
+      seven = call.seven;
+    })
 
 -- ---- a round call
 

@@ -1,10 +1,12 @@
 -- WHAT THE EXPORTED CALLS OF A SEARCH THAT IS WATCHED RETURN AND PROMISE, in numbers. The numbers are those of a reply with which the library's own contract
 -- holds; what that contract says follows, in the returned numbers. A look is exported as it is. So a list of exported calls is one of the library's (`call`),
 -- and what holds after every such list is `AfterCalls` in watch/specs/AnyCalls.antt.
-use Rattle.std.specs.Prelude.{◌≡◌, ◌⊎◌, true, false, ◌*◌, ◌≤◌, ◌<◌, length}
+use Rattle.std.specs.Prelude.{◌≡◌, ◌⊎◌, true, false, ◌*◌, ◌≤◌, ◌<◌, length, Result, Ok, Err}
 use Rattle.model.specs.Sheet.{Sheet, places}
 use Rattle.model.specs.Schedule.{Schedule}
 use Rattle.model.specs.Limits.{numbers_a_pair}
+use Rattle.model.specs.Replies.{Admission}
+use Rattle.model.specs.declared.Refusal.{Refusal}
 use Rattle.model.specs.declared.RoundReply.{RoundReply}
 use Rattle.model.specs.declared.RoundReply.TheVariants.{GoesOn, Ended, Refused}
 use Rattle.rounds.specs.Prompt.{Prompt}
@@ -14,7 +16,6 @@ use Rattle.watch.specs.State.{no_state}
 use Rattle.watch.specs.LeftBy.{LeftBy}
 use Rattle.watch.specs.Calls.{StartCall, RoundCall}
 use Rattle.watch.specs.declared.State.{State}
-use Rattle.watch.specs.declared.Started.{Started}
 use Rattle.watch.specs.declared.Moved.{Moved}
 use Rattle.exported.specs.Exported.{no_cause, cause_of, cause_in}
 use Rattle.watched.specs.declared.Start.{Start}
@@ -22,12 +23,19 @@ use Rattle.watched.specs.declared.Round.{Round}
 
 -- ---- a start
 
-abbrev pub start_of : Started → Start
-start_of r = record { cause = cause_in r.admission; state = r.state }
+-- the state, or the cause beside noughts
+abbrev pub start_of : Result State Refusal → Start
+start_of (Ok state) = record { cause = no_cause; state = state }
+start_of (Err r) = record { cause = cause_of r; state = no_state }
+
+-- the state if the tests grant it
+abbrev pub started_so : Admission → State → Result State Refusal
+started_so (Ok _) state = Ok state
+started_so (Err r) state = Err r
 
 pub record ExportedStart (s : Sheet) (lent : SearchAreas) (r : Start) : Type 0 where
   pub equal : r.cause ≡ cause_in (start_to s lent)
-  pub call : StartCall s lent (record { admission = start_to s lent; state = r.state })
+  pub call : StartCall s lent (started_so (start_to s lent) r.state)
   -- an accepted one gives the state before the first round
   pub begins : r.cause.number ≡ 0 → LeftBy s lent started r.state lent
   -- a refused one gives none, and never 8

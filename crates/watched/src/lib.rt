@@ -2,11 +2,11 @@
 #![tactic(auto)]
 
 ghost use Rattle.std.specs.Prelude.{◌≡◌};
-ghost use Rattle.watched.specs.ExportedWatching.{start_of, round_of};
 
-use exported::{Cause, cause_in, cause_of};
-use model::RoundReply;
-use watch::{Moved, Started, State};
+use exported::Cause;
+use model::{Refusal, RoundReply};
+use watch::keeping::no_state;
+use watch::{Moved, State};
 
 // What a start gives: the state, or the cause beside noughts.
 #[repr(C)]
@@ -28,50 +28,54 @@ pub struct Round {
     pub state: State,
 }
 
-pub fn start_of(started: Started) -> Start
-    ensures { result ≡ start_of started }
-{
-    let admission = started.admission;
-    let cause = cause_in(admission);
-    let state = started.state;
-    Start {
-        cause: cause,
-        state: state,
+impl From<Result<State, Refusal>> for Start {
+    ghost use Rattle.watched.specs.ExportedWatching.{start_of};
+
+    ghost from_gives = { λ reply start. start ≡ start_of reply };
+
+    fn from(reply: Result<State, Refusal>) -> Start {
+        match reply {
+            Ok(state) => Start {
+                cause: Cause::NONE,
+                state,
+            },
+            Err(refusal) => Start {
+                cause: refusal.into(),
+                state: no_state(),
+            },
+        }
     }
 }
 
-pub fn round_of(moved: Moved) -> Round
-    ensures { result ≡ round_of moved }
-{
-    let reply = moved.reply;
-    let state = moved.state;
-    match reply {
-        RoundReply::GoesOn => Round {
-            cause: Cause {
-                number: 0,
-                returned: 0,
+impl From<Moved> for Round {
+    ghost use Rattle.watched.specs.ExportedWatching.{round_of};
+
+    ghost from_gives = { λ moved round. round ≡ round_of moved };
+
+    fn from(moved: Moved) -> Round {
+        let state = moved.state;
+        match moved.reply {
+            RoundReply::GoesOn => Round {
+                cause: Cause::NONE,
+                ended: false,
+                pairs: 0,
+                rounds: 0,
+                state,
             },
-            ended: false,
-            pairs: 0,
-            rounds: 0,
-            state: state,
-        },
-        RoundReply::Ended { pairs, rounds } => Round {
-            cause: Cause {
-                number: 0,
-                returned: 0,
+            RoundReply::Ended { pairs, rounds } => Round {
+                cause: Cause::NONE,
+                ended: true,
+                pairs,
+                rounds,
+                state,
             },
-            ended: true,
-            pairs: pairs,
-            rounds: rounds,
-            state: state,
-        },
-        RoundReply::Refused(refusal) => Round {
-            cause: cause_of(refusal),
-            ended: true,
-            pairs: 0,
-            rounds: 0,
-            state: state,
-        },
+            RoundReply::Refused(refusal) => Round {
+                cause: refusal.into(),
+                ended: true,
+                pairs: 0,
+                rounds: 0,
+                state,
+            },
+        }
     }
 }
