@@ -2,7 +2,7 @@
 ghost use Rattle.model.specs.Memory.{window_sheet, timetable_sheet};
 ghost use Rattle.exported.specs.ExportedBound.{ExportedBound};
 
-use exported::bounding::{Bound, bound_of};
+use exported::bounding::Bound;
 use model::{TimetableSheet, WindowSheet};
 
 // The figure of a sheet of the window form.
@@ -10,8 +10,7 @@ use model::{TimetableSheet, WindowSheet};
 pub extern "C" fn joshkamber_bound_windows(sheet: WindowSheet) -> Bound
     ensures { ExportedBound (window_sheet sheet) result }
 {
-    let reply = bound::bound_windows(sheet);
-    bound_of(reply)
+    Bound::from(bound::bound(sheet))
 }
 
 // The figure of a sheet of the timetable form.
@@ -19,6 +18,5 @@ pub extern "C" fn joshkamber_bound_windows(sheet: WindowSheet) -> Bound
 pub extern "C" fn joshkamber_bound_timetable(sheet: TimetableSheet) -> Bound
     ensures { ExportedBound (timetable_sheet sheet) result }
 {
-    let reply = bound::bound_timetable(sheet);
-    bound_of(reply)
+    Bound::from(bound::bound(sheet))
 }

@@ -19,7 +19,7 @@ ghost use Rattle.rounds.specs.Told.{areas};
 ghost use Rattle.exported.specs.Exported.{windows_read, timetable_read, ExportedReading};
 ghost use Rattle.exported.specs.ExportedPlanning.{ExportedListing, ExportedChoice};
 
-use exported::{Choice, Listing, TimetableRead, WindowsRead, cause_in, choice_of, listing_of};
+use exported::{Cause, Choice, Listing, TimetableRead, WindowsRead};
 use fields::NamePlace;
 use model::{TimetableSheet, WindowSheet};
 
@@ -74,8 +74,7 @@ pub extern "C" fn joshkamber_name_in_timetable(text: &[u8], order: usize) -> Nam
 pub extern "C" fn joshkamber_list_windows(sheet: WindowSheet, pairs: &mut [i64]) -> Listing
     ensures { ExportedListing (window_sheet sheet) result pairs.new pairs.old }
 {
-    let reply = listing::list_windows(sheet, pairs);
-    listing_of(reply)
+    Listing::from(listing::list(sheet, pairs))
 }
 
 // Lists the pairs of a sheet of the timetable form.
@@ -83,8 +82,7 @@ pub extern "C" fn joshkamber_list_windows(sheet: WindowSheet, pairs: &mut [i64])
 pub extern "C" fn joshkamber_list_timetable(sheet: TimetableSheet, pairs: &mut [i64]) -> Listing
     ensures { ExportedListing (timetable_sheet sheet) result pairs.new pairs.old }
 {
-    let reply = listing::list_timetable(sheet, pairs);
-    listing_of(reply)
+    Listing::from(listing::list(sheet, pairs))
 }
 
 // Chooses the plan of a sheet of the window form for a wished arrival.
@@ -98,8 +96,8 @@ pub extern "C" fn joshkamber_choose_windows(
     ensures { ExportedChoice (window_sheet sheet) wish result (areas train_of_order.new times.new)
         (areas train_of_order.old times.old) }
 {
-    let reply = choosing::choose_windows(sheet, wish, train_of_order, times);
-    choice_of(reply)
+    let reply = choosing::choose::<WindowSheet>(sheet, wish, train_of_order, times);
+    Choice::from(reply)
 }
 
 // Chooses the plan of a sheet of the timetable form for a wished arrival.
@@ -113,6 +111,6 @@ pub extern "C" fn joshkamber_choose_timetable(
     ensures { ExportedChoice (timetable_sheet sheet) wish result (areas train_of_order.new times.new)
         (areas train_of_order.old times.old) }
 {
-    let reply = choosing::choose_timetable(sheet, wish, train_of_order, times);
-    choice_of(reply)
+    let reply = choosing::choose::<TimetableSheet>(sheet, wish, train_of_order, times);
+    Choice::from(reply)
 }

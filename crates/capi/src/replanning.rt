@@ -1,41 +1,13 @@
 // Replanning after some trains have gone, of the window form. The rows of order and train of the gone part are a lent list of records, laid out as in C.
 ghost use Rattle.rounds.specs.Told.{areas};
-ghost use Rattle.foreign.specs.Gathered.{OfRows};
 ghost use Rattle.replan.specs.Relisting.{RelistedAt};
 ghost use Rattle.replan.specs.Rechoosing.{RechosenAt};
 ghost use Rattle.exported.specs.InNumbers.{InNumbers};
 ghost use Rattle.exported.specs.ExportedPlanning.{listing_of, choice_of};
 
-use exported::{Choice, Listing, choice_of, listing_of};
-use foreign::{Given, gather};
+use exported::{Choice, Listing};
 use model::Row;
-use replan::WindowsAt;
-
-// Lists the pairs behind gone trains whose rows are gathered.
-fn relist_gathered(at: WindowsAt, departures: &[u32], given: Given, pairs: &mut [i64]) -> Listing
-    ensures { OfRows given
-        (λ rows. InNumbers listing_of (λ x. RelistedAt at departures.now rows x pairs.new pairs.old) result) }
-{
-    let reply = replan::relist_gathered(at, departures, given, pairs);
-    listing_of(reply)
-}
-
-// Chooses a plan behind gone trains whose rows are gathered.
-fn rechoose_gathered(
-    at: WindowsAt,
-    wish: u32,
-    departures: &[u32],
-    given: Given,
-    train_of_order: &mut [u8],
-    times: &mut [u32],
-) -> Choice
-    ensures { OfRows given
-        (λ rows. InNumbers choice_of (λ x. RechosenAt at wish departures.now rows x (areas train_of_order.new times.new)
-        (areas train_of_order.old times.old)) result) }
-{
-    let reply = replan::rechoose_gathered(at, wish, departures, given, train_of_order, times);
-    choice_of(reply)
-}
+use replan::{WindowsAt, rechoose_windows, relist_windows};
 
 // Lists the pairs behind gone trains.
 #[unsafe(no_mangle)]
@@ -47,8 +19,7 @@ pub extern "C" fn joshkamber_relist_windows(
 ) -> Listing
     ensures { InNumbers listing_of (λ x. RelistedAt at departures.now rows.now x pairs.new pairs.old) result }
 {
-    let given = gather(rows);
-    relist_gathered(at, departures, given, pairs)
+    Listing::from(relist_windows(at, departures, rows, pairs))
 }
 
 // Chooses a plan behind gone trains for a wished arrival.
@@ -64,6 +35,6 @@ pub extern "C" fn joshkamber_rechoose_windows(
     ensures { InNumbers choice_of (λ x. RechosenAt at wish departures.now rows.now x
         (areas train_of_order.new times.new) (areas train_of_order.old times.old)) result }
 {
-    let given = gather(rows);
-    rechoose_gathered(at, wish, departures, given, train_of_order, times)
+    let reply = rechoose_windows(at, wish, departures, rows, train_of_order, times);
+    Choice::from(reply)
 }

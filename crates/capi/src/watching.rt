@@ -6,7 +6,7 @@ ghost use Rattle.watched.specs.ExportedWatching.{ExportedStart, ExportedRound};
 
 use model::{TimetableSheet, WindowSheet};
 use watch::State;
-use watched::{Round, Start, round_of, start_of};
+use watched::{Round, Start};
 
 // Starts a search on a sheet of the window form.
 #[unsafe(no_mangle)]
@@ -18,8 +18,7 @@ pub extern "C" fn joshkamber_start_windows(
 ) -> Start
     ensures { ExportedStart (window_sheet sheet) (all_areas pairs.now train_of_order.now times.now) result }
 {
-    let started = watch::start::start_windows(sheet, pairs, train_of_order, times);
-    start_of(started)
+    Start::from(watch::start::start(sheet, pairs, train_of_order, times))
 }
 
 // Starts a search on a sheet of the timetable form.
@@ -32,8 +31,7 @@ pub extern "C" fn joshkamber_start_timetable(
 ) -> Start
     ensures { ExportedStart (timetable_sheet sheet) (all_areas pairs.now train_of_order.now times.now) result }
 {
-    let started = watch::start::start_timetable(sheet, pairs, train_of_order, times);
-    start_of(started)
+    Start::from(watch::start::start(sheet, pairs, train_of_order, times))
 }
 
 // Moves a search on a sheet of the window form by one round.
@@ -48,8 +46,8 @@ pub extern "C" fn joshkamber_round_windows(
     ensures { ExportedRound (window_sheet sheet) state result (all_areas pairs.new train_of_order.new times.new)
         (all_areas pairs.old train_of_order.old times.old) }
 {
-    let moved = watch::round::round_windows(state, sheet, pairs, train_of_order, times);
-    round_of(moved)
+    let moved = watch::round::round(state, sheet, pairs, train_of_order, times);
+    Round::from(moved)
 }
 
 // Moves a search on a sheet of the timetable form by one round.
@@ -64,8 +62,8 @@ pub extern "C" fn joshkamber_round_timetable(
     ensures { ExportedRound (timetable_sheet sheet) state result (all_areas pairs.new train_of_order.new times.new)
         (all_areas pairs.old train_of_order.old times.old) }
 {
-    let moved = watch::round::round_timetable(state, sheet, pairs, train_of_order, times);
-    round_of(moved)
+    let moved = watch::round::round(state, sheet, pairs, train_of_order, times);
+    Round::from(moved)
 }
 
 // How many pairs at the front of the pairs area are recorded so far.

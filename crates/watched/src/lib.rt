@@ -40,7 +40,7 @@ impl From<Result<State, Refusal>> for Start {
                 state,
             },
             Err(refusal) => Start {
-                cause: refusal.into(),
+                cause: Cause::from(refusal),
                 state: no_state(),
             },
         }

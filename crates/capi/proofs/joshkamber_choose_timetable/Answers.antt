@@ -6,4 +6,4 @@ use Rattle.capi.proofs.joshkamber_choose_timetable.Goals as goal
 pub returns : goal.returns
 returns c =
     let a = c.args in
-    exported_choice (timetable_sheet a.sheet) a.wish _ _ c.choose_timetable-reply.result _ c.choose_timetable-reply.ensures c.choice_of.ensures
+    exported_choice (timetable_sheet a.sheet) a.wish _ _ c.choose-reply.result _ c.choose-reply.ensures c.from.ensures

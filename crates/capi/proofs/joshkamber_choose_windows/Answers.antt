@@ -6,4 +6,4 @@ use Rattle.capi.proofs.joshkamber_choose_windows.Goals as goal
 pub returns : goal.returns
 returns c =
     let a = c.args in
-    exported_choice (window_sheet a.sheet) a.wish _ _ c.choose_windows-reply.result _ c.choose_windows-reply.ensures c.choice_of.ensures
+    exported_choice (window_sheet a.sheet) a.wish _ _ c.choose-reply.result _ c.choose-reply.ensures c.from.ensures

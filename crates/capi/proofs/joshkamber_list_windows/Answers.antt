@@ -6,4 +6,4 @@ use Rattle.capi.proofs.joshkamber_list_windows.Goals as goal
 pub returns : goal.returns
 returns c =
     let a = c.args in
-    exported_listing (window_sheet a.sheet) _ _ c.list_windows-reply.result _ c.list_windows-reply.ensures c.listing_of.ensures
+    exported_listing (window_sheet a.sheet) _ _ c.list.result _ c.list.ensures c.from.ensures

@@ -5,4 +5,4 @@ use Rattle.capi.proofs.bounding.joshkamber_bound_timetable.Goals as goal
 
 pub returns : goal.returns
 returns c =
-    exported_bound (timetable_sheet c.args.sheet) c.bound_timetable-reply.result _ c.bound_timetable-reply.ensures c.bound_of.ensures
+    exported_bound (timetable_sheet c.args.sheet) c.bound.result _ c.bound.ensures c.from.ensures

@@ -5,4 +5,4 @@ use Rattle.capi.proofs.bounding.joshkamber_bound_windows.Goals as goal
 
 pub returns : goal.returns
 returns c =
-    exported_bound (window_sheet c.args.sheet) c.bound_windows-reply.result _ c.bound_windows-reply.ensures c.bound_of.ensures
+    exported_bound (window_sheet c.args.sheet) c.bound.result _ c.bound.ensures c.from.ensures

@@ -6,4 +6,4 @@ use Rattle.capi.proofs.watching.joshkamber_round_timetable.Goals as goal
 pub returns : goal.returns
 returns c =
     let a = c.args in
-    exported_round (timetable_sheet a.sheet) a.state _ _ c.round_timetable-moved.result _ c.round_timetable-moved.ensures c.round_of.ensures
+    exported_round (timetable_sheet a.sheet) a.state _ _ c.round-moved.result _ c.round-moved.ensures c.from.ensures

@@ -6,4 +6,4 @@ use Rattle.capi.proofs.watching.joshkamber_round_windows.Goals as goal
 pub returns : goal.returns
 returns c =
     let a = c.args in
-    exported_round (window_sheet a.sheet) a.state _ _ c.round_windows-moved.result _ c.round_windows-moved.ensures c.round_of.ensures
+    exported_round (window_sheet a.sheet) a.state _ _ c.round-moved.result _ c.round-moved.ensures c.from.ensures

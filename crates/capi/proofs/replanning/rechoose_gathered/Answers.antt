@@ -1,7 +1,0 @@
--- `capi::replanning::rechoose_gathered` meets its contract: it tells the library's reply, whatever rows were gathered. Assumes nothing.
-use Rattle.capi.proofs.replanning.rechoose_gathered.Goals as goal
-
-pub returns : goal.returns
-returns c rows e =
-    let reply = c.rechoose_gathered-reply in
-    record { reply = reply.result; call = reply.ensures rows e; is = c.choice_of.ensures }
