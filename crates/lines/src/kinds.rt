@@ -71,7 +71,10 @@ pub fn number_fields(
     let mut values = [0; 3];
     let mut end = name.start + name.length;
     for value in &mut values[..count] {
-        let field = number_field(text, end).ok_or(malformed)?;
+        // The paper names this form for a field that is not a number.
+        let Some(field) = number_field(text, end) else {
+            return Err(malformed);
+        };
         *value = field.value;
         end = field.next;
     }

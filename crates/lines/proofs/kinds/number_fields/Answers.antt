@@ -16,4 +16,4 @@ loop-value-preserved c =
     let few : count ≤ 3 = omega (arith, c.number_count-count.ensures, few_numbers c.args.letter) in
     let inside : n < length c.loop-value.value-items = omega arith in
     let some : count - n ≡ suc (count - (n + 1)) = omega (arith, length-take-le {A = ℕ} count (0 ∷ 0 ∷ 0 ∷ []) few) in
-    c.loop-value.invariant ∙ rw some (one_number _ _ _ _ _ _ _ _ _ (sym c.number_field.ensures ∙ c.in_ok-field.ensures.ok_part) inside)
+    c.loop-value.invariant ∙ rw some (one_number _ _ _ _ _ _ _ _ _ (sym c.number_field.ensures ∙ c.in-Some.is) inside)
