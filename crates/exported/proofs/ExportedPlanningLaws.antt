@@ -3,7 +3,7 @@ use Rattle.std.specs.Prelude.{◌≡◌, refl, List, ℕ, ◌≤◌, ℤ}
 use Rattle.std.proofs.Common.{◌∙◌, ap, subst, arith}
 use Rattle.model.specs.Sheet.{Sheet}
 use Rattle.model.specs.Refusal.{of_reply, number_of, returned_of}
-use Rattle.std.specs.Prelude.{Err}
+use Rattle.std.specs.Prelude.{Ok, Err}
 use Rattle.model.specs.Replies.{ListReply, ChoiceReply}
 use Rattle.rounds.specs.RoundsBound.{rounds_bound}
 use Rattle.rounds.specs.Areas.{PlanAreas}

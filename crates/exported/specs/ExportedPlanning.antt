@@ -7,7 +7,7 @@ use Rattle.model.specs.Booking.{Booked}
 use Rattle.model.specs.ShortTrains.{EmptyTrains}
 use Rattle.model.specs.Lateness.{Pair}
 use Rattle.model.specs.Admission.{Admitted}
-use Rattle.std.specs.Prelude.{Err}
+use Rattle.std.specs.Prelude.{Ok, Err}
 use Rattle.model.specs.Replies.{ListReply, ChoiceReply}
 use Rattle.rounds.specs.EntryPlan.{EntryPlan}
 use Rattle.rounds.specs.Prompt.{Prompt}
