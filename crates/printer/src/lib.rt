@@ -1,6 +1,7 @@
 // Document 01, "The printed plan": a plan or a refusal as bytes in a lent buffer, which stays as found where they do not fit.
 #![tactic(auto)]
 
+ghost use Rattle.std.specs.Prelude.{List, ℕ};
 ghost use Rattle.writing.specs.Writing.{Prints, Puts};
 ghost use Rattle.layout.specs.Lines.{refusal_line};
 ghost use Rattle.printer.specs.PlanBytes.{plan_bytes};
@@ -25,48 +26,71 @@ pub fn print_plan(
         (plan_bytes text.now names pairs.now train_of_order.now times.now rounds)
         out.old result out.new }
 {
-    let mut counted = Page::counting(out);
-    plan_lines(
-        &mut counted,
+    let plan = Plan {
         text,
         names,
         pairs,
         train_of_order,
         times,
         rounds,
-    );
-    counted.place?;
-    let mut page = Page::writing(out);
-    plan_lines(&mut page, text, names, pairs, train_of_order, times, rounds);
-    page.place
+    };
+    print(&plan, out)
 }
 
 // Prints a refusal.
 pub fn print_refusal(refusal: Refusal, out: &mut [u8]) -> Option<usize>
     ensures { Prints (refusal_line refusal) out.old result out.new }
 {
+    print(&refusal, out)
+}
+
+// What is printed, and its bytes.
+trait Lines {
+    ghost bytes: { Self → List ℕ };
+
+    // Puts all its lines on a page.
+    fn put_on(&self, page: &mut Page<'_>)
+        ensures { Puts (bytes self.now) page.old page.new };
+}
+
+// Prints lines to the front of the buffer: a first pass counts their bytes, and a second one writes them where they fit.
+fn print<L: Lines>(lines: &L, out: &mut [u8]) -> Option<usize>
+    ensures { Prints (L.bytes lines.now) out.old result out.new }
+{
     let mut counted = Page::counting(out);
-    layout::refusal_line(&mut counted, refusal);
+    lines.put_on(&mut counted);
     counted.place?;
     let mut page = Page::writing(out);
-    layout::refusal_line(&mut page, refusal);
+    lines.put_on(&mut page);
     page.place
 }
 
-// All lines of a plan.
-fn plan_lines(
-    page: &mut Page<'_>,
-    text: &[u8],
+// The parts of a plan.
+#[derive(Clone, Copy)]
+struct Plan<'a> {
+    text: &'a [u8],
     names: NamePlaces,
-    pairs: &[i64],
-    train_of_order: &[u8],
-    times: &[u32],
+    pairs: &'a [i64],
+    train_of_order: &'a [u8],
+    times: &'a [u32],
     rounds: usize,
-)
-    ensures { Puts (plan_bytes text.now names pairs.now train_of_order.now times.now rounds) page.old page.new }
-{
-    layout::pair_lines(page, pairs);
-    layout::time_lines(page, times);
-    layout::order_lines(page, text, names, train_of_order);
-    layout::rounds_line(page, rounds);
+}
+
+impl Lines for Plan<'_> {
+    ghost bytes = { λ p. plan_bytes p.text.now p.names p.pairs.now p.train_of_order.now p.times.now p.rounds };
+
+    fn put_on(&self, page: &mut Page<'_>) {
+        layout::pair_lines(page, self.pairs);
+        layout::time_lines(page, self.times);
+        layout::order_lines(page, self.text, self.names, self.train_of_order);
+        layout::rounds_line(page, self.rounds);
+    }
+}
+
+impl Lines for Refusal {
+    ghost bytes = { refusal_line };
+
+    fn put_on(&self, page: &mut Page<'_>) {
+        layout::refusal_line(page, *self);
+    }
 }

@@ -1,7 +1,7 @@
--- `plan_lines` meets its contract: its lines are put one behind the other. Assumes nothing.
+-- A plan's `put_on` meets its contract: its lines are put one behind the other. Assumes nothing.
 use Rattle.writing.proofs.WritingLaws.{puts_then}
 use Rattle.printer.specs.PlanBytes.{plan_bytes}
-use Rattle.printer.proofs.plan_lines.Goals as goal
+use Rattle.printer.proofs.PlanLines.put_on.Goals as goal
 
 pub returns : goal.returns
 unfolding plan_bytes
