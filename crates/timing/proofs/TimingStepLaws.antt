@@ -1,14 +1,13 @@
 -- Laws by which code is shown to compute step 2, a branch or a turn at a time. Assumes nothing.
-use Rattle.std.specs.Prelude.{◌≡◌, ◌⊎◌, Bool, true, false, cond, ◌&&◌, List, [], ◌∷◌, ◌++◌, leb, ltb, length, set, take, replicate}
+use Rattle.std.specs.Prelude.{◌≡◌, ◌⊎◌, Bool, true, false, cond, ◌&&◌, Option, IfSome, eqb, List, [], ◌∷◌, ◌++◌, leb, ltb, length, set, take, replicate}
 use Rattle.std.proofs.Math.Path.{refl, sym}
 use Rattle.std.proofs.Common.{ap, ◌∙◌, subst, inl, inr, add-one, length-set, take_all, take-suc, get_or-take, get_or-set_same, get_or-set_other, ext_get_or}
 use Prim.Native.Nat.{ℕ, zero, suc, ◌+◌, ◌-◌, ◌≤◌, ◌<◌, max}
 use native.Mathlib.Omega.{arith}
 use Rattle.std.proofs.Math.Dec.{T}
 use Rattle.std.specs.Bool.{then_some}
-use Rattle.std.proofs.lemmas.List.{get_or-replicate}
 use Rattle.std.proofs.Math.Seq.{take-suc-set}
-use borrow.Author.Tests.{lt-ltb, le-ltb, eq-eqb, ne_eqb}
+use borrow.Author.Tests.{eq-eqb, ne_eqb}
 use Rattle.numbers.specs.Counting.{at, nth, table, row, each}
 use Rattle.numbers.specs.DecidesLaws.{Decides, decided, decides_eq, decides_le, decides_lt, decides_and}
 use Rattle.numbers.specs.CountingLaws.{table_length, table_at}
@@ -27,7 +26,7 @@ use Rattle.rounds.specs.Timing.{awaited, first_window, earliest, none, departed,
 use Rattle.rounds.specs.Timing.{arrive, on_timetable, stopped, timed, timing}
 use Rattle.rounds.proofs.SameOutsetLaws.{timing_same}
 use Rattle.rounds.specs.Rounds.{times}
-use Rattle.timing.specs.Timed.{never, departed_in, timed_in, times_since, WindowsOver, HaveLeft}
+use Rattle.timing.specs.Timed.{departed_in, timed_in, times_since, WindowsOver, HaveLeft}
 use Rattle.timing.specs.declared.Leaving.{Leaving}
 use Rattle.timing.specs.declared.Times.{Times}
 
@@ -165,23 +164,15 @@ module _ (w : Windows) (released : ℕ → ℕ) where
 
 -- ---- trains that have left
 
-pub left_none : HaveLeft 0 (replicate train_counts.most never)
-left_none = (refl, λ k l. absurd (omega arith), λ k l m. get_or-replicate {A = ℕ} train_counts.most k never 0 m)
+pub left_none : HaveLeft 0 (replicate train_counts.most 0)
+left_none = (refl, λ k l. absurd (omega arith))
 
 pub left_more : (l : List ℕ) (i v : ℕ) → i < train_counts.most → v ≤ last_instant → HaveLeft i l → HaveLeft (i + 1) (set l i v)
-left_more l i v few h (long, early, rest) =
-    (length-set l i v ∙ long, λ k m. go k m (decided (decides_eq k i)), λ k m n. get_or-set_other l i k v 0 (λ e. omega arith) ∙ rest k (omega arith) n)
+left_more l i v few h (long, early) = (length-set l i v ∙ long, λ k m. go k m (decided (decides_eq k i)))
   where
     go : (k : ℕ) → k < i + 1 → (k ≡ i) ⊎ (¬ (k ≡ i)) → at (set l i v) k ≤ last_instant
     go k m (inl e) = rw (e, get_or-set_same l i v 0 (omega (arith, long))) h
     go k m (inr e) = rw (get_or-set_other l i k v 0 e) (early k (omega arith))
-
-pub left_bound : (l : List ℕ) (i : ℕ) → HaveLeft i l → UpTo never train_counts.most l
-left_bound l i (long, early, rest) k m = go (decided (decides_le i k))
-  where
-    go : (i ≤ k) ⊎ (¬ (i ≤ k)) → at l k ≤ never
-    go (inl u) = omega (arith, rest k u m)
-    go (inr u) = omega (arith, early k (omega arith))
 
 -- whether a train and a window are still to come: i of q trains have left, and m of v windows are over
 module _ (i q m v : ℕ) where
@@ -199,12 +190,23 @@ module _ (i q m v : ℕ) where
       go (inl h) (inr k) = inr (h, omega arith)
       go (inl h) (inl k) = absurd (subst T e (to_come.complete (h, k)))
 
-module _ (r : Leaving) (q : ℕ) where
-  pub all_left : 1 ≤ q → HaveLeft q r.departure → departed_in q r ≡ departed (take q r.departure) (take q r.window)
-  all_left some (long, early, rest) = rw (lt-ltb (nth r.departure q) never (omega (arith, early (q - 1) (omega arith))))
+-- what is told where i of q trains have left
+module _ (r : Leaving) (i q : ℕ) where
+  abbrev pub told : Option Leaving
+  told = then_some (eqb i q) r
 
-  pub some_never : (i : ℕ) → i < q → q ≤ train_counts.most → HaveLeft i r.departure → departed_in q r ≡ none
-  some_never i more few (long, early, rest) = rw (le-ltb (nth r.departure q) never (omega (arith, rest (q - 1) (omega arith) (omega arith))))
+  pub all_left : i ≡ q → departed_in q told ≡ departed (take q r.departure) (take q r.window)
+  all_left e = rw (eq-eqb i q e)
+
+  pub some_never : i < q → departed_in q told ≡ none
+  some_never more = let e : ¬ (i ≡ q) = λ z. omega arith in rw (ne_eqb i q e)
+
+  pub left_in_time : UpTo last_instant i r.departure → IfSome told (λ r. UpTo last_instant q r.departure)
+  left_in_time early = go (decided (decides_eq i q))
+    where
+      go : (i ≡ q) ⊎ (¬ (i ≡ q)) → IfSome told (λ r. UpTo last_instant q r.departure)
+      go (inl e) = rw (eq-eqb i q e) (rw e at early)
+      go (inr e) = rw (ne_eqb i q e) tt
 
 -- ---- arrivals
 
@@ -280,14 +282,17 @@ pub timed_when : (q : ℕ) (t : Times) (b : Bool) → timed_in q (then_some b t)
 timed_when q t true = refl
 timed_when q t false = refl
 
-pub windows_timed : (w : Windows) (released : ℕ → ℕ) (q : ℕ) (leaves : Bool) (departure arrival window : List ℕ)
-    → cond leaves (departed (take q departure) (take q window)) none ≡ departures w released q
-    → take q arrival ≡ row (arrival_behind w.gap w.running (nth departure)) q
-    → cond leaves (timed (take q departure) (take q arrival) (take q window)) stopped ≡ timing (windows w) q released
-unfolding timing arrive
-windows_timed w released q true departure arrival window e f =
-    rw (← e) (ap (λ (F : List ℕ). timed (take q departure) F (take q window)) (f ∙ row_arrivals w.gap w.running departure q))
-windows_timed w released q false departure arrival window e f = rw (← e)
+module _ (w : Windows) (released : ℕ → ℕ) (q : ℕ) where
+  pub windows_timed : (departure arrival window : List ℕ) → departed (take q departure) (take q window) ≡ departures w released q
+      → take q arrival ≡ row (arrival_behind w.gap w.running (nth departure)) q
+      → timed (take q departure) (take q arrival) (take q window) ≡ timing (windows w) q released
+  unfolding timing arrive
+  windows_timed departure arrival window e f =
+      rw (← e) (ap (λ (F : List ℕ). timed (take q departure) F (take q window)) (f ∙ row_arrivals w.gap w.running departure q))
+
+  pub windows_stopped : none ≡ departures w released q → stopped ≡ timing (windows w) q released
+  unfolding timing arrive
+  windows_stopped e = rw (← e)
 
 module _ (departure arrival : List ℕ) (q : ℕ) where
   -- a timetable's windows are 0

@@ -1,6 +1,6 @@
 -- What the timing code asks of a loading, and what its results say of q trains.
-use Rattle.std.specs.Prelude.{◌≡◌, cond, Option, Some, None, List, [], ℕ, suc, ◌≤◌, ◌<◌, ltb, length, take}
-use Rattle.numbers.specs.Counting.{at, nth}
+use Rattle.std.specs.Prelude.{◌≡◌, Option, Some, None, List, [], ℕ, suc, ◌≤◌, ◌<◌, length, take}
+use Rattle.numbers.specs.Counting.{at}
 use Rattle.model.specs.Sheet.{Sheet}
 use Rattle.model.specs.Limits.{last_instant, train_counts}
 use Rattle.columns.specs.Columns.{UpTo}
@@ -13,13 +13,14 @@ use Rattle.timing.specs.declared.Times.{Times}
 abbrev pub OnTrains : (n : ℕ) (train : List ℕ) → Type 0
 OnTrains n train = (j : ℕ) → j < n → (1 ≤ at train j) × (at train j ≤ train_counts.most)
 
--- the departure of a train that finds no window
+-- one more than the last instant
 abbrev pub never : ℕ
 never = suc last_instant
 
--- the departures of q trains with their windows: none where the last of them never leaves
-abbrev pub departed_in : (q : ℕ) → Leaving → Departed
-departed_in q r = cond (ltb (nth r.departure q) never) (departed (take q r.departure) (take q r.window)) none
+-- the departures of q trains with their windows: none where one of them never leaves
+abbrev pub departed_in : (q : ℕ) → Option Leaving → Departed
+departed_in q None = none
+departed_in q (Some r) = departed (take q r.departure) (take q r.window)
 
 -- the times of q trains: none where step 2 stops the round
 abbrev pub timed_in : (q : ℕ) → Option Times → Timed
@@ -34,6 +35,6 @@ times_since s since = times_from s (record { capacity = s.capacity; latest = [];
 abbrev pub WindowsOver : (to : List ℕ) (t m : ℕ) → Type 0
 WindowsOver to t m = (k : ℕ) → k < m → at to k < t
 
--- trains 1 to i have left, and those behind them have not
+-- trains 1 to i have left
 abbrev pub HaveLeft : (i : ℕ) (departure : List ℕ) → Type 0
-HaveLeft i l = (length l ≡ train_counts.most) × UpTo last_instant i l × ((k : ℕ) → i ≤ k → k < train_counts.most → at l k ≡ never)
+HaveLeft i l = (length l ≡ train_counts.most) × UpTo last_instant i l

@@ -1,7 +1,7 @@
 // Step 2 of a round: the departures, arrivals and windows of the trains. Train i stands at place i - 1 of every list.
 #![tactic(auto)]
 
-ghost use Rattle.std.specs.Prelude.{◌≡◌, ◌≤◌, take};
+ghost use Rattle.std.specs.Prelude.{◌≡◌, ◌≤◌, IfSome, take};
 ghost use Rattle.numbers.specs.Counting.{at, nth, row};
 ghost use Rattle.model.specs.Memory.{windows_of, sheet_of};
 ghost use Rattle.model.specs.Arrival.{arrival as arrival_of, arrival_behind};
@@ -12,12 +12,9 @@ ghost use Rattle.rounds.specs.Rounds.{times as times_of};
 ghost use Rattle.columns.specs.Columns.{UpTo, Loaded};
 ghost use Rattle.timing.specs.Timed.{OnTrains, never, departed_in, timed_in, times_since};
 
-use columns::{last_of, none_above, of_train};
-use model::limits::{LAST_INSTANT, MOST_ORDERS, MOST_TRAINS};
+use columns::{none_above, of_train};
+use model::limits::{MOST_ORDERS, MOST_TRAINS};
 use model::{Form, Sheet};
-
-// The departure of a train that finds no window: after every instant.
-const NEVER: u32 = LAST_INSTANT + 1;
 
 // The departures of the trains in the window form, and the windows, from 1, in which they leave.
 #[derive(Clone, Copy)]
@@ -52,16 +49,16 @@ fn releases(
     released
 }
 
-// Each train's departure in the window form: the least instant in a window that it may leave at, with that window, or NEVER for it and all behind it.
+// Each train's departure in the window form: the least instant in a window that it may leave at, with that window; none if one of them finds no window.
 // Train i + 1 awaits instant t. A window that is over for one train is over for those behind it, so each turn passes a window or lets a train leave.
-fn find_departures(sheet: Sheet, released: [u32; MOST_TRAINS]) -> Leaving
+fn find_departures(sheet: Sheet, released: [u32; MOST_TRAINS]) -> Option<Leaving>
     requires { Admitted (sheet_of sheet) × (sheet.form ≡ Form.Windows) }
     ensures is { departed_in sheet.train_count result ≡ departures_of (windows_of sheet) (nth released) sheet.train_count }
-    ensures in_time { UpTo never train_counts.most result.departure }
+    ensures in_time { IfSome result (λ r. UpTo last_instant sheet.train_count r.departure) }
 {
     let from = sheet.window_from;
     let to = sheet.window_to;
-    let mut departure = [NEVER; MOST_TRAINS];
+    let mut departure = [0u32; MOST_TRAINS];
     let mut window = [0u8; MOST_TRAINS];
     let mut t: u32 = 0;
     let mut i: usize = 0;
@@ -78,7 +75,7 @@ fn find_departures(sheet: Sheet, released: [u32; MOST_TRAINS]) -> Leaving
         t += sheet.gap;
         i += 1;
     }
-    Leaving { departure, window }
+    (i == sheet.train_count).then_some(Leaving { departure, window })
 }
 
 // The arrivals of trains 1 to i, each found from the arrival of the train ahead, back to the first train.
@@ -143,12 +140,9 @@ pub fn time_trains_since(
     let released = releases(sheet.order_count, sheet.release, train, since);
     match sheet.form {
         Form::Windows => {
-            let leaving = find_departures(sheet, released);
-            let departure = leaving.departure;
-            let window = leaving.window;
-            let runs = last_of(departure, sheet.train_count) < NEVER;
+            let Leaving { departure, window } = find_departures(sheet, released)?;
             let arrival = find_arrivals(sheet, departure);
-            runs.then_some(Times {
+            Some(Times {
                 departure,
                 arrival,
                 window,

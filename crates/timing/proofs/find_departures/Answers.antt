@@ -1,15 +1,15 @@
 -- `timing::find_departures` meets its contract: the loop's invariant is that trains 1 to i have left, each in the window told, and that the first m windows
 -- are over at the instant that the next train awaits. Assumes nothing.
-use Rattle.std.proofs.Common.{◌≡◌, refl, sym, ◌∙◌, inl, inr, suc, ◌+◌, ◌≤◌, ◌<◌, max, arith, add-one, take, replicate, length-set}
+use Rattle.std.proofs.Common.{◌≡◌, refl, sym, ap, ◌∙◌, inl, inr, suc, ◌+◌, ◌≤◌, ◌<◌, max, arith, add-one, take, replicate, length-set}
 use Rattle.numbers.specs.Counting.{at, nth}
 use Rattle.model.specs.Memory.{windows_of}
 use Rattle.model.proofs.MemoryLaws.{windows_in_range}
 use Rattle.rounds.specs.Timing.{first_window, earliest, departures}
 use Rattle.columns.proofs.ColumnLaws.{nth_at}
-use Rattle.timing.specs.Timed.{never, departed_in}
+use Rattle.timing.specs.Timed.{departed_in}
 use Rattle.timing.proofs.TimingStepLaws.{no_window, window_first, earliest_first, earliest_behind}
 use Rattle.timing.proofs.TimingStepLaws.{departures_first, departures_stop, departures_next}
-use Rattle.timing.proofs.TimingStepLaws.{left_none, left_more, all_left, some_never, both_to_come, one_at_end}
+use Rattle.timing.proofs.TimingStepLaws.{left_none, left_more, told, all_left, some_never, left_in_time, both_to_come, one_at_end}
 use Rattle.timing.specs.declared.Leaving.{Leaving}
 use Rattle.timing.proofs.find_departures.Goals as goal
 
@@ -18,7 +18,7 @@ loop-i-init c = (
   (omega arith, omega arith, refl),
   left_none,
   departures_first _ _,
-  earliest_first _ (replicate 32 never) _,
+  earliest_first _ (replicate 32 0) _,
   λ k l. absurd (omega arith),
 )
 
@@ -80,10 +80,17 @@ returns-clause-is c =
     let leaving : Leaving = record { departure = l.departure; window = l.window } in
     let t = max l.t (at s.released l.i) in
     let awaited : t ≡ earliest w.gap (take l.i l.departure) l.i (nth s.released (suc l.i)) = rw (nth_at s.released l.i) inv.3 in
-    elim (one_at_end l.i q l.m _ c.loop-i-test.false inv.0.0 inv.0.1) as (λ _. departed_in q leaving ≡ departures (windows_of w) (nth s.released) q) [
-      | inl e ↦ all_left leaving q c.requires.0.complete.trains (rw e at inv.1) ∙ sym (rw e at inv.2)
+    ap (departed_in q) c.then_some.ensures
+    ∙ elim (one_at_end l.i q l.m _ c.loop-i-test.false inv.0.0 inv.0.1) as (λ _. departed_in q (told leaving l.i q) ≡ departures (windows_of w) (nth s.released) q) [
+      | inl e ↦ all_left leaving l.i q e ∙ sym (rw e at inv.2)
       | inr h ↦
-          some_never leaving q l.i h.0 c.requires.0.few.trains inv.1
+          some_never leaving l.i q h.0
           ∙ departures_stop (windows_of w) (nth s.released) l.departure l.window l.i t 0 inv.2 awaited
           (no_window w.window_to t w.window_count (rw h.1 at inv.4)) refl q h.0
     ]
+
+pub returns-clause-in_time : goal.returns-clause-in_time
+returns-clause-in_time c =
+    let l = c.loop-i in
+    let leaving : Leaving = record { departure = l.departure; window = l.window } in
+    rw c.then_some.ensures (left_in_time leaving l.i c.args.sheet.train_count l.invariant.1.1)
