@@ -37,7 +37,8 @@ module _ {S : Type 0} (meant : S → Sheet) (columns : memory.Sheet → S) (form
       }
 
   -- it is made of what the call gives that gives the sheet in memory
-  pub columns_read : (r : Reading memory.Sheet) → reading form text ≡ Ok r → reading_as columns form text ≡ Ok (record { sheet = columns r.sheet; names = r.names })
+  pub columns_read : (r : Reading memory.Sheet) → reading form text ≡ Ok r
+      → reading_as columns form text ≡ Ok (record { sheet = columns r.sheet; names = r.names })
   unfolding reading_as reading
   columns_read r e = let (s, of, made) = made_of (λ s. s) form (read_from form text 0) r e in
       ap (reading_of columns form) of ∙ ap (λ (r : Reading memory.Sheet). Ok (record { sheet = columns r.sheet; names = r.names })) (sym made)

@@ -102,8 +102,8 @@ module _ (form : Form) where
     pub ended : (s : SheetLines) → t ≡ Ok s → end_fault form s ≡ Ok tt
 
   module _ (P : SheetLines → Type 0) (text : List ℕ) (none : P no_lines)
-      (more : (p line : ℕ) (s : SheetLines) (l : LineAt) → line_at text p line ≡ Ok l → line_fault form line s l.line ≡ Ok tt → P s
-      → P (with_line s l.line)) where
+      (more : (p line : ℕ) (s : SheetLines) (l : LineAt) → line_at text p line ≡ Ok l → line_fault form line s l.line ≡ Ok tt
+      → P s → P (with_line s l.line)) where
     of_refused : (r : Refusal) → Whole P (Err r)
     of_refused r = record { lines = λ s e. absurd cc; ended = λ s e. absurd cc }
 
