@@ -53,17 +53,21 @@ pub fn choose_from(
     let mut choice = Err(Refusal::NoSchedule);
     while !progress.ended & (progress.last <= wish) {
         progress = round_from(progress, sheet, outset);
-        if progress.better & (progress.last <= wish) {
-            let train = progress.train;
-            put_trains(train, sheet.order_count, train_of_order);
-            let departure = progress.departure;
-            let arrival = progress.arrival;
-            let window = progress.window;
-            put_times(departure, arrival, window, sheet.train_count, times);
-            choice = Ok(PlanPair {
-                last: progress.last,
-                worst: progress.limit,
-            });
+        if let Some(timed) = progress.recorded {
+            if progress.last <= wish {
+                put_trains(progress.train, sheet.order_count, train_of_order);
+                put_times(
+                    timed.departure,
+                    timed.arrival,
+                    timed.window,
+                    sheet.train_count,
+                    times,
+                );
+                choice = Ok(PlanPair {
+                    last: progress.last,
+                    worst: progress.limit,
+                });
+            }
         }
     }
     told(choice, progress.last <= wish)

@@ -39,7 +39,7 @@ pub fn list_from(sheet: Sheet, outset: Outset, pairs: &mut [i64]) -> Result<List
     while !progress.ended {
         let before = progress.last;
         progress = round_from(progress, sheet, outset);
-        if progress.better {
+        if progress.recorded.is_some() {
             count = list_pair(pairs, count, before, progress.last, progress.limit);
         }
     }

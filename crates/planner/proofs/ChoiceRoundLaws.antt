@@ -6,7 +6,7 @@ use Rattle.numbers.specs.DecidesLaws.{decides_le, test_means, test_fails, one_ou
 use Rattle.numbers.specs.OneMoreLaws.{All, all_new}
 use Rattle.numbers.specs.Over.{over}
 use Rattle.model.specs.Sheet.{Sheet}
-use Rattle.std.specs.Prelude.{Err}
+use Rattle.std.specs.Prelude.{Option, Some, None, Err}
 use Rattle.model.specs.Replies.{ChoiceReply, chosen_as}
 use Rattle.model.specs.declared.Refusal.TheVariants.{NoSchedule}
 use Rattle.rounds.specs.Recording.{Entry, record_entry, no_entry, recorded_arrival, last_entry}
@@ -19,7 +19,7 @@ use Rattle.rounds.specs.Answers.{Answer, chosen, choose_from}
 use Rattle.rounds.specs.Areas.{PlanAreas, plan_times}
 use Rattle.rounds.proofs.ChoosingLaws.{choice_settled, choice_at_end}
 use Rattle.rounds.specs.Told.{areas, ChoiceTold}
-use Rattle.search.specs.Shows.{shown_entry, recorded_by}
+use Rattle.search.specs.Shows.{Times, shown_entry, recorded_by}
 use Rattle.search.proofs.RunLaws.{over_means}
 use Rattle.search.specs.declared.Progress.{Progress}
 use Rattle.planner.specs.Outcome.{choice_so}
@@ -50,9 +50,10 @@ module _ (s : Sheet) (a : Aim s) (wish : ℕ) where
       record { schedule = schedule_of s a _ _ h.schedule; arrives = h.arrives; arrivals = h.arrivals; pair = h.pair }
 
   -- the plan that a round recorded is a schedule
-  own_plan : (p r : Progress) → recorded_now_from s o r ≡ record_entry (recorded_now_from s o p) (shown_entry s r) → EntryPlan s (shown_entry s r)
-  own_plan p r is =
-      let e = shown_entry s r in
+  own_plan : (p r : Progress) (t : Times) → recorded_now_from s o r ≡ record_entry (recorded_now_from s o p) (shown_entry s r t)
+      → EntryPlan s (shown_entry s r t)
+  own_plan p r t is =
+      let e = shown_entry s r t in
       let (before, u) = record_last (recorded_now_from s o p) e in
       all_new no_entry before e (EntryPlan s) (subst (All no_entry (EntryPlan s)) (is ∙ u) (all_plans r.rounds))
 
@@ -70,31 +71,31 @@ module _ (s : Sheet) (a : Aim s) (wish : ℕ) where
   module _ (p r : Progress) (choice : ChoiceReply) (left found : PlanAreas) (h : Holds s wish choice left found p.last (recorded_now_from s o p))
       (early : p.last ≤ wish) where
     -- a better plan in time, once it is written
-    pub choice_taken : recorded_now_from s o r ≡ record_entry (recorded_now_from s o p) (shown_entry s r) → r.last ≤ wish → (trains times : List ℕ)
-        → trains ≡ over (shown_entry s r).plan.train left.trains
-        → times ≡ over (plan_times s (shown_entry s r).plan) left.times
+    pub choice_taken : (t : Times) → recorded_now_from s o r ≡ record_entry (recorded_now_from s o p) (shown_entry s r t) → r.last ≤ wish
+        → (trains times : List ℕ) → trains ≡ over (shown_entry s r t).plan.train left.trains
+        → times ≡ over (plan_times s (shown_entry s r t).plan) left.times
         → Holds s wish (chosen_as r.last r.limit) (areas trains times) found r.last (recorded_now_from s o r)
-    choice_taken is timely trains times trains_are times_are =
+    choice_taken t is timely trains times trains_are times_are =
         rw is
-        (takes s wish choice left found p.last (recorded_now_from s o p) h early (shown_entry s r) timely (own_plan p r is) (all_plans p.rounds)
+        (takes s wish choice left found p.last (recorded_now_from s o p) h early (shown_entry s r t) timely (own_plan p r t is) (all_plans p.rounds)
         trains times trains_are times_are)
 
     -- a plan that is not better, or late
     pub choice_kept : RunningFrom s o p → RunningFrom s o r → recorded_now_from s o r ≡ recorded_by s r (recorded_now_from s o p)
-        → (r.better ≡ false) ⊎ (wish < r.last)
+        → (r.recorded ≡ None) ⊎ (wish < r.last)
         → Holds s wish choice left found r.last (recorded_now_from s o r)
-    choice_kept before after records why = go r.better refl why
+    choice_kept before after records why = go r.recorded refl why
       where
-        same : r.better ≡ false → Holds s wish choice left found r.last (recorded_now_from s o r)
+        same : r.recorded ≡ None → Holds s wish choice left found r.last (recorded_now_from s o r)
         same worse =
             let is = next_same s o p r worse records in
             held (before.last ∙ sym (ap recorded_arrival is) ∙ sym after.last) (sym is) h
 
-        go : (b : Bool) → r.better ≡ b → (r.better ≡ false) ⊎ (wish < r.last) → Holds s wish choice left found r.last (recorded_now_from s o r)
-        go b u (inl worse) = same worse
-        go false u (inr late) = same u
-        go true u (inr late) =
-            rw (next_better s o p r u records) (leaves s wish choice left found p.last (recorded_now_from s o p) h early (shown_entry s r) late)
+        go : (out : Option Times) → r.recorded ≡ out → (r.recorded ≡ None) ⊎ (wish < r.last) → Holds s wish choice left found r.last (recorded_now_from s o r)
+        go out u (inl worse) = same worse
+        go None u (inr late) = same u
+        go (Some t) u (inr late) =
+            rw (next_better s o p r t u records) (leaves s wish choice left found p.last (recorded_now_from s o p) h early (shown_entry s r t) late)
 
   -- AT THE END, or once the pair recorded last is later than the wish, what is told is what the rounds answer
   pub choice_ended : (p : Progress) (choice : ChoiceReply) (left found : PlanAreas) → RunningFrom s o p

@@ -1,5 +1,5 @@
 -- A call's rounds, from the first to what is told at their end. Assumes nothing.
-use Rattle.std.specs.Prelude.{◌≡◌, true, false, List, [], ◌∷◌, ℕ, ◌+◌, ◌<◌, ℤ, length}
+use Rattle.std.specs.Prelude.{◌≡◌, true, false, Some, None, List, [], ◌∷◌, ℕ, ◌+◌, ◌<◌, ℤ, length}
 use Rattle.std.proofs.Math.Path.{refl}
 use Rattle.std.proofs.Common.{sym, ◌∙◌, arith}
 use Rattle.numbers.specs.DecidesLaws.{decides_eq, cond_yes, cond_no}
@@ -15,7 +15,7 @@ use Rattle.rounds.specs.Answers.{Answer, list_of, list_from}
 use Rattle.rounds.specs.Areas.{list_reply, pair_numbers, list_left}
 use Rattle.rounds.specs.Told.{Told, ListTold}
 use Rattle.recording.specs.Recorded.{held_list, Lists, ListsMore}
-use Rattle.search.specs.Shows.{ShowsFrom, shown_entry, recorded_by, MakesFrom}
+use Rattle.search.specs.Shows.{Times, ShowsFrom, shown_entry, recorded_by, MakesFrom}
 use Rattle.search.specs.Parts.{BegunFrom}
 use Rattle.search.proofs.PartsLaws.{begun_from}
 use Rattle.search.proofs.RunLaws.{nothing_recorded, start_shown, next_shown, more_to_come, over_means}
@@ -39,11 +39,11 @@ module _ (s : Sheet) (o : Outset) where
   next p r h makes one = next_shown s o p r h makes one
 
   -- what the round recorded
-  pub next_better : (p r : Progress) → r.better ≡ true → recorded_now_from s o r ≡ recorded_by s r (recorded_now_from s o p)
-      → recorded_now_from s o r ≡ record_entry (recorded_now_from s o p) (shown_entry s r)
-  next_better p r better records = rw better at records
+  pub next_better : (p r : Progress) (t : Times) → r.recorded ≡ Some t → recorded_now_from s o r ≡ recorded_by s r (recorded_now_from s o p)
+      → recorded_now_from s o r ≡ record_entry (recorded_now_from s o p) (shown_entry s r t)
+  next_better p r t better records = rw better at records
 
-  pub next_same : (p r : Progress) → r.better ≡ false → recorded_now_from s o r ≡ recorded_by s r (recorded_now_from s o p)
+  pub next_same : (p r : Progress) → r.recorded ≡ None → recorded_now_from s o r ≡ recorded_by s r (recorded_now_from s o p)
       → recorded_now_from s o r ≡ recorded_now_from s o p
   next_same p r worse records = rw worse at records
 
@@ -57,11 +57,11 @@ module _ (s : Sheet) (o : Outset) where
       record { count_is = rw none refl; last_is = h.last; area_is = rw none refl }
 
   -- a better plan is listed, another is not
-  pub list_better : (p r : Progress) (count more : ℕ) (area after found : List ℤ)
-      → recorded_now_from s o r ≡ record_entry (recorded_now_from s o p) (shown_entry s r) → Lists found (held_list count p.last area) (recorded_now_from s o p)
+  pub list_better : (p r : Progress) (t : Times) (count more : ℕ) (area after found : List ℤ)
+      → recorded_now_from s o r ≡ record_entry (recorded_now_from s o p) (shown_entry s r t) → Lists found (held_list count p.last area) (recorded_now_from s o p)
       → ListsMore (held_list count p.last area) (held_list more r.last after) r.last r.limit
       → Lists found (held_list more r.last after) (recorded_now_from s o r)
-  list_better p r count more area after found is h lists = rw is (lists found (recorded_now_from s o p) (shown_entry s r) refl h)
+  list_better p r t count more area after found is h lists = rw is (lists found (recorded_now_from s o p) (shown_entry s r t) refl h)
 
   pub list_same : (p r : Progress) (count : ℕ) (area found : List ℤ) → RunningFrom s o r → recorded_now_from s o r ≡ recorded_now_from s o p
       → Lists found (held_list count p.last area) (recorded_now_from s o p) → Lists found (held_list count r.last area) (recorded_now_from s o r)

@@ -1,6 +1,7 @@
 -- What holds where a round is begun, and what its parts ask of columns. Assumes nothing.
-use Rattle.std.specs.Prelude.{◌≡◌, refl, false, List, ℕ, suc, ◌-◌, ◌<◌, take}
+use Rattle.std.specs.Prelude.{◌≡◌, refl, true, false, Some, None, List, ℕ, ℤ, suc, ◌-◌, ◌<◌, take}
 use Rattle.std.proofs.Common.{sym, ap, ◌∙◌, arith, get_or-take}
+use Rattle.std.specs.Int.Signed.{lt_z}
 use Rattle.numbers.specs.Counting.{at}
 use Rattle.numbers.specs.DecidesLaws.{test_false, test_fails, one_outcome}
 use Rattle.model.specs.Sheet.{Sheet}
@@ -21,7 +22,7 @@ use Rattle.columns.specs.Columns.{UpTo, Loaded}
 use Rattle.timing.specs.declared.Times.{Times}
 use Rattle.lowering.specs.Ranged.{ArrivesTo}
 use Rattle.search.specs.Shows.{Stands, goes_on, has_ended, ReachedFrom, Reached}
-use Rattle.search.specs.Parts.{BegunFrom, Begun}
+use Rattle.search.specs.Parts.{BegunFrom, Begun, Graded}
 use Rattle.search.specs.declared.Progress.{Progress}
 
 -- where a search goes on a round can be made
@@ -55,6 +56,14 @@ module _ (s : Sheet) (o : Outset) (a : Admitted s) (p : Progress) (b : BegunFrom
   -- a further round can be counted
   pub few_rounds : p.rounds < most_pairs
   few_rounds = omega (arith, b.within, bound_most s a)
+
+-- step 3 of a plan that is better, and of one that is not
+module _ (p r : Progress) (t : Times) (z : ℤ) (f : ℕ) where
+  pub graded_better : lt_z z p.limit ≡ true → r.recorded ≡ Some t → r.limit ≡ z → r.last ≡ f → Graded p r t z f
+  graded_better better recorded limit last = rw better (recorded, limit, last)
+
+  pub graded_worse : lt_z z p.limit ≡ false → r.recorded ≡ None → r.limit ≡ p.limit → r.last ≡ p.last → Graded p r t z f
+  graded_worse worse recorded limit last = rw worse (recorded, limit, last)
 
 -- a plan that was made arrives in time
 pub made_in_time : (s : Sheet) (o : Outset) → Admitted s → (train : List ℕ) (t : Times)

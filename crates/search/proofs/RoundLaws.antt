@@ -1,5 +1,6 @@
 -- A round of the code is a round of document 01: step 2 stops it, or it goes through all steps. Assumes nothing.
-use Rattle.std.specs.Prelude.{◌≡◌, refl, Bool, ℤ, take}
+use Rattle.std.specs.Prelude.{◌≡◌, refl, Bool, Some, None, ℤ, take}
+use Rattle.std.specs.Int.Signed.{lt_z}
 use Rattle.std.proofs.Common.{sym, ap, ◌∙◌, subst, arith, get_or-take}
 use Rattle.std.proofs.Math.Bool.{true, false, cond}
 use mathlib.Core.List.{List}
@@ -17,6 +18,7 @@ use Rattle.rounds.specs.Outset.{Outset}
 use Rattle.rounds.specs.Rounds.{Search, going, ended, recorded_in, loading_from, times_from, settle, grade, depart, round_from}
 use Rattle.columns.specs.Columns.{UpTo}
 use Rattle.loading.proofs.BeginLaws.{orderly_next}
+use Rattle.timing.specs.declared.Times.{Times}
 use Rattle.search.specs.Shows.{Stands, goes_on, has_ended, BeginsFromOutset, ShowsFrom, shown_entry, recorded_by, RoundMadeFrom, MakesFrom}
 use Rattle.search.specs.Parts.{Graded, SettledFrom}
 use Rattle.search.specs.declared.Progress.{Progress}
@@ -65,88 +67,89 @@ module _ (s : Sheet) (o : Outset) (p r : Progress) (on : p.ended ≡ false) (cou
   departs recorded t e = rw e
 
   -- STEP 2 STOPS IT
-  pub round_stopped : BeginsFromOutset s o r → times_from s o train ≡ stopped → r.better ≡ false → r.last ≡ p.last → r.ended ≡ true → MakesFrom s o p r
+  pub round_stopped : BeginsFromOutset s o r → times_from s o train ≡ stopped → r.recorded ≡ None → r.last ≡ p.last → r.ended ≡ true → MakesFrom s o p r
   unfolding depart
-  round_stopped orderly stops better last over =
+  round_stopped orderly stops nothing last over =
       makes orderly (λ recorded.
       record {
         search = ended made recorded;
         is = departs recorded stopped stops;
         stands = has_ended over one_more;
-        records = rw better;
-        last = λ e. rw better (last ∙ e);
+        records = rw nothing;
+        last = λ e. rw nothing (last ∙ e);
       })
 
-  -- the plan that the round leaves, its arrivals and its worst lateness
-  abbrev plan : Plan
-  plan = (shown_entry s r).plan
+  module _ (t : Times) where
+    -- the plan that the round leaves, its arrivals and its worst lateness
+    abbrev plan : Plan
+    plan = (shown_entry s r t).plan
 
-  abbrev F : ℕ → ℕ
-  F = nth plan.arrival
+    abbrev F : ℕ → ℕ
+    F = nth plan.arrival
 
-  abbrev z : ℤ
-  z = worst s plan.train F
+    abbrev z : ℤ
+    z = worst s plan.train F
 
-  -- step 3
-  module _ (graded : Graded p r z (F s.trains)) (recorded : List Entry) where
-    grades : grade s o made latest p.limit recorded plan ≡ settle s o made latest r.limit (recorded_by s r recorded) F
-    unfolding grade
-    grades = rw (← graded.0) (go r.better graded.1 graded.2)
+    -- step 3
+    module _ (graded : Graded p r t z (F s.trains)) (recorded : List Entry) where
+      grades : grade s o made latest p.limit recorded plan ≡ settle s o made latest r.limit (recorded_by s r recorded) F
+      unfolding grade
+      grades = go (lt_z z p.limit) graded.0 graded.1 graded.2
+        where
+          go : (b : Bool) → r.recorded ≡ cond b (Some t) None → r.limit ≡ cond b z p.limit → r.last ≡ cond b (F s.trains) p.last
+              → cond b (settle s o made latest z (record_entry recorded (record { pair = record { last = F s.trains; worst = z }; plan = plan })) F)
+              (settle s o made latest p.limit recorded F)
+              ≡ settle s o made latest r.limit (recorded_by s r recorded) F
+          go true d e f = rw (d, e, f)
+          go false d e f = rw (d, e)
+
+      last_graded : p.last ≡ recorded_arrival recorded → r.last ≡ recorded_arrival (recorded_by s r recorded)
+      last_graded last_is = go (lt_z z p.limit) graded.0 graded.2
+        where
+          go : (b : Bool) → r.recorded ≡ cond b (Some t) None → r.last ≡ cond b (F s.trains) p.last → r.last ≡ recorded_arrival (recorded_by s r recorded)
+          go true d e = rw d (sym (arrival_recorded recorded (shown_entry s r t)))
+          go false d e = rw d (e ∙ last_is)
+
+    -- steps 4 and 5
+    settles : SettledFrom s o p r F → (entries : List Entry) → let x = settle s o made latest r.limit entries F in
+        Stands s.orders r x × (recorded_in x ≡ entries)
+    unfolding settle
+    settles settled entries = go (crowded s.orders o.capacity now s.trains) (rw settled.0 at settled.1)
       where
-        go : (b : Bool) → r.limit ≡ cond b z p.limit → r.last ≡ cond b (F s.trains) p.last
-            → cond b (settle s o made latest z (record_entry recorded (record { pair = record { last = F s.trains; worst = z }; plan = plan })) F)
-            (settle s o made latest p.limit recorded F)
-            ≡ settle s o made latest r.limit (cond b (record_entry recorded (shown_entry s r)) recorded) F
-        go true e f = rw (e, f)
-        go false e f = rw e
+        now : List ℕ
+        now = lower s.orders s.weight s.due F r.limit latest
 
-    last_graded : p.last ≡ recorded_arrival recorded → r.last ≡ recorded_arrival (recorded_by s r recorded)
-    last_graded last_is = go r.better graded.2
-      where
-        go : (b : Bool) → r.last ≡ cond b (F s.trains) p.last → r.last ≡ recorded_arrival (cond b (record_entry recorded (shown_entry s r)) recorded)
-        go true e = sym (arrival_recorded recorded (shown_entry s r))
-        go false e = e ∙ last_is
+        go : (b : Bool) → r.ended ≡ b → let x = cond b (ended made entries) (going made now r.limit entries) in
+            Stands s.orders r x × (recorded_in x ≡ entries)
+        go true e = (has_ended e one_more, refl)
+        go false e = (goes_on e one_more settled.0 refl, refl)
 
-  -- steps 4 and 5
-  settles : SettledFrom s o p r F → (entries : List Entry) → let x = settle s o made latest r.limit entries F in
-      Stands s.orders r x × (recorded_in x ≡ entries)
-  unfolding settle
-  settles settled entries = go (crowded s.orders o.capacity now s.trains) (rw settled.0 at settled.1)
-    where
-      now : List ℕ
-      now = lower s.orders s.weight s.due F r.limit latest
+    -- the next loading may begin from the trains of this one, since no latest train has risen
+    next_orderly : UpTo s.trains s.orders p.latest → plan.train ≡ train
+        → take s.orders r.latest ≡ lower s.orders s.weight s.due F r.limit latest → BeginsFromOutset s o r
+    next_orderly low loads lowered =
+        orderly_next s.orders s.trains s.release o.capacity latest r.latest r.train loads
+        (λ j l. omega (arith, get_or-take s.orders p.latest j 0 l, low j l))
+        (λ j l.
+        omega (
+          arith,
+          get_or-take s.orders r.latest j 0 l,
+          ap (λ (t : List ℕ). at t j) lowered,
+          lower_at s.orders s.weight s.due F r.limit latest j l,
+          (latest_below_is (s.weight j) (s.due j) F r.limit (at latest j)).not_above,
+        ))
 
-      go : (b : Bool) → r.ended ≡ b → let x = cond b (ended made entries) (going made now r.limit entries) in
-          Stands s.orders r x × (recorded_in x ≡ entries)
-      go true e = (has_ended e one_more, refl)
-      go false e = (goes_on e one_more settled.0 refl, refl)
-
-  -- the next loading may begin from the trains of this one, since no latest train has risen
-  next_orderly : UpTo s.trains s.orders p.latest → plan.train ≡ train
-      → take s.orders r.latest ≡ lower s.orders s.weight s.due F r.limit latest → BeginsFromOutset s o r
-  next_orderly low loads lowered =
-      orderly_next s.orders s.trains s.release o.capacity latest r.latest r.train loads
-      (λ j l. omega (arith, get_or-take s.orders p.latest j 0 l, low j l))
-      (λ j l.
-      omega (
-        arith,
-        get_or-take s.orders r.latest j 0 l,
-        ap (λ (t : List ℕ). at t j) lowered,
-        lower_at s.orders s.weight s.due F r.limit latest j l,
-        (latest_below_is (s.weight j) (s.due j) F r.limit (at latest j)).not_above,
-      ))
-
-  -- OR IT GOES THROUGH ALL STEPS
-  pub round_made : UpTo s.trains s.orders p.latest → plan.train ≡ train
-      → times_from s o train ≡ timed plan.departure plan.arrival plan.window → Graded p r z (F s.trains) → SettledFrom s o p r F → MakesFrom s o p r
-  unfolding depart
-  round_made low loads runs graded settled =
-      makes (next_orderly low loads settled.0) (λ recorded.
-      let (stands, records) = settles settled (recorded_by s r recorded) in
-      record {
-        search = settle s o made latest r.limit (recorded_by s r recorded) F;
-        is = departs recorded _ runs ∙ rw (← loads) (grades graded recorded);
-        stands = stands;
-        records = records;
-        last = last_graded graded recorded;
-      })
+    -- OR IT GOES THROUGH ALL STEPS
+    pub round_made : UpTo s.trains s.orders p.latest → plan.train ≡ train
+        → times_from s o train ≡ timed plan.departure plan.arrival plan.window → Graded p r t z (F s.trains) → SettledFrom s o p r F → MakesFrom s o p r
+    unfolding depart
+    round_made low loads runs graded settled =
+        makes (next_orderly low loads settled.0) (λ recorded.
+        let (stands, records) = settles settled (recorded_by s r recorded) in
+        record {
+          search = settle s o made latest r.limit (recorded_by s r recorded) F;
+          is = departs recorded _ runs ∙ rw (← loads) (grades graded recorded);
+          stands = stands;
+          records = records;
+          last = last_graded graded recorded;
+        })

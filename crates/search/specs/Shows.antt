@@ -1,11 +1,13 @@
 -- WHAT THE CODE'S PROGRESS SHOWS OF A SEARCH from an outset, and what a round leaves in it for its caller to record.
-use Rattle.std.specs.Prelude.{◌≡◌, true, false, cond, List, ℕ, ℤ, take}
+use Rattle.std.specs.Prelude.{◌≡◌, true, false, List, ℕ, ℤ, take}
+use Rattle.std.specs.Option.{option_map_or}
 use Rattle.model.specs.Sheet.{Sheet}
 use Rattle.model.specs.Admission.{Few}
 use Rattle.rounds.specs.Recording.{Entry, record_entry, recorded_arrival}
 use Rattle.rounds.specs.Outset.{Outset, ordinary}
 use Rattle.rounds.specs.Rounds.{Search, going, ended, recorded_in, start_from, round_from, rounds_from}
 use Rattle.loading.specs.Orderly.{Orderly}
+pub use Rattle.timing.specs.declared.Times.{Times}
 use Rattle.search.specs.Setting.{outset_of}
 use Rattle.search.specs.declared.Outset as memory
 use Rattle.search.specs.declared.Progress.{Progress}
@@ -34,23 +36,23 @@ pub record ShowsFrom (s : Sheet) (o : Outset) (p : Progress) (x : Search) : Type
 abbrev pub Starts : memory.Outset → Progress → Type 0
 Starts c p = (s : Sheet) → Few s → let o = outset_of s.orders c in ShowsFrom s o p (start_from o)
 
--- the pair and the plan that the last round left in the progress
-abbrev pub shown_entry : Sheet → Progress → Entry
-shown_entry s p =
+-- the pair and the plan that the last round left in the progress, with the plan's times
+abbrev pub shown_entry : Sheet → Progress → Times → Entry
+shown_entry s p t =
     record {
       pair = record { last = p.last; worst = p.limit };
       plan =
           record {
             train = take s.orders p.train;
-            departure = take s.trains p.departure;
-            arrival = take s.trains p.arrival;
-            window = take s.trains p.window;
+            departure = take s.trains t.departure;
+            arrival = take s.trains t.arrival;
+            window = take s.trains t.window;
           };
     }
 
--- what is recorded after the last round: its plan too where it was better, else nothing more
+-- what is recorded after the last round: its plan too where it left the plan's times, else nothing more
 abbrev pub recorded_by : Sheet → Progress → List Entry → List Entry
-recorded_by s p entries = cond p.better (record_entry entries (shown_entry s p)) entries
+recorded_by s p entries = option_map_or (λ t. record_entry entries (shown_entry s p t)) p.recorded entries
 
 -- of the search x that was shown before it the round has made the next one, and left in the progress r what it recorded
 pub record RoundMadeFrom (s : Sheet) (o : Outset) (r : Progress) (x : Search) : Type 0 where

@@ -7,6 +7,7 @@ pub mod round;
 pub mod start;
 
 use model::limits::{MOST_ORDERS, MOST_TRAINS};
+use timing::Times;
 
 // What a search sets out from: the places of each train, of which there may be none; each order's latest train at first; and the instant from which each
 // train may leave.
@@ -17,17 +18,14 @@ pub struct Outset {
     pub since: [u32; MOST_TRAINS],
 }
 
-// Where a search stands between rounds: each order's latest train, and its train in the last round, from which the next loading begins; the last round's
-// times, and whether that plan was recorded (better than all before); the limit and the last arrival of the pair recorded last; how many rounds were made,
-// and whether the search has ended.
+// Where a search stands between rounds: each order's latest train, and its train in the last round, from which the next loading begins; the times of the last
+// round's plan, if it was recorded (better than all before); the limit and the last arrival of the pair recorded last; how many rounds were made, and whether
+// the search has ended.
 #[derive(Clone, Copy)]
 pub struct Progress {
     pub latest: [u8; MOST_ORDERS],
     pub train: [u8; MOST_ORDERS],
-    pub departure: [u32; MOST_TRAINS],
-    pub arrival: [u32; MOST_TRAINS],
-    pub window: [u8; MOST_TRAINS],
-    pub better: bool,
+    pub recorded: Option<Times>,
     pub limit: i64,
     pub last: u32,
     pub rounds: usize,

@@ -30,14 +30,10 @@ pub fn start_from(outset: Outset) -> Progress
     ensures { Starts outset result }
 {
     let latest = outset.latest;
-    let no_time = [0; MOST_TRAINS];
     Progress {
         latest,
         train: [0; MOST_ORDERS],
-        departure: no_time,
-        arrival: no_time,
-        window: [0; MOST_TRAINS],
-        better: false,
+        recorded: None,
         limit: FIRST_LIMIT,
         last: 0,
         rounds: 0,

@@ -1,5 +1,5 @@
 -- One round, and what it writes: the state and the areas are as after one round call more. Assumes nothing.
-use Rattle.std.specs.Prelude.{◌≡◌, true, false, List, ℕ, ℤ}
+use Rattle.std.specs.Prelude.{◌≡◌, Some, None, List, ℕ, ℤ}
 use Rattle.std.proofs.Math.Path.{refl, ap}
 use Rattle.std.proofs.Common.{sym, ◌∙◌, subst, arith}
 use Rattle.std.proofs.Math.ListN.{length}
@@ -17,7 +17,7 @@ use Rattle.rounds.specs.Told.{areas}
 use Rattle.rounds.specs.ByRound.{SearchAreas, all_areas, SearchRoom, Calls, then_round, search_by, last_plan, areas_by}
 use Rattle.rounds.proofs.ByRoundLaws.{last_plan_given, last_plan_so}
 use Rattle.recording.specs.Recorded.{held_list, Lists, ListsMore}
-use Rattle.search.specs.Shows.{Shows, shown_entry, recorded_by, RoundMade, Makes}
+use Rattle.search.specs.Shows.{Times, Shows, shown_entry, recorded_by, RoundMade, Makes}
 use Rattle.search.specs.declared.Progress.{Progress}
 use Rattle.planner.proofs.SoFarLaws.{writes_over}
 use Rattle.watch.specs.State.{progress_of, state_of}
@@ -59,7 +59,7 @@ module _ (s : Sheet) (state : State) (r : Progress) (makes : Makes s (progress_o
   records = ap recorded_in next_is ∙ made.records
 
   -- A PLAN THAT IS NOT BETTER: nothing is written
-  pub moves_same : r.better ≡ false → LeftBy s lent (then_round calls) (state_of r state.pairs) found
+  pub moves_same : r.recorded ≡ None → LeftBy s lent (then_round calls) (state_of r state.pairs) found
   moves_same worse =
       let same : recorded_in next ≡ recorded_in x = rw worse at records in
       record {
@@ -71,9 +71,9 @@ module _ (s : Sheet) (state : State) (r : Progress) (makes : Makes s (progress_o
       }
 
   -- A BETTER PLAN: its pair is listed, and it is written
-  module _ (better : r.better ≡ true) (count : ℕ) (pairs : List ℤ) (trains times : List ℕ) where
+  module _ (t : Times) (better : r.recorded ≡ Some t) (count : ℕ) (pairs : List ℤ) (trains times : List ℕ) where
     abbrev e : Entry
-    e = shown_entry s r
+    e = shown_entry s r t
 
     abbrev left : SearchAreas
     left = all_areas pairs trains times

@@ -1,6 +1,6 @@
 -- THE STATE THAT A CALLER HOLDS, AND THE SEARCH'S PROGRESS.
-use Rattle.std.specs.Prelude.{false, not, cond, ℕ, eqb, pos, replicate}
-use Rattle.model.specs.Limits.{order_counts, train_counts}
+use Rattle.std.specs.Prelude.{None, not, cond, ℕ, eqb, pos, replicate}
+use Rattle.model.specs.Limits.{order_counts}
 use Rattle.model.specs.declared.Refusal.TheVariants.{NoSchedule}
 use Rattle.model.specs.declared.RoundReply.{RoundReply}
 use Rattle.model.specs.declared.RoundReply.TheVariants.{GoesOn, Ended, Refused}
@@ -26,10 +26,7 @@ progress_of x =
     record {
       latest = x.latest;
       train = x.train;
-      departure = replicate train_counts.most 0;
-      arrival = replicate train_counts.most 0;
-      window = replicate train_counts.most 0;
-      better = false;
+      recorded = None;
       limit = x.limit;
       last = x.last;
       rounds = x.rounds;

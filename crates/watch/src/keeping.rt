@@ -3,7 +3,7 @@ ghost use Rattle.std.specs.Prelude.{◌≡◌};
 ghost use Rattle.watch.specs.State.{no_state, progress_of, state_of, said_of};
 
 use crate::State;
-use model::limits::{MOST_ORDERS, MOST_TRAINS};
+use model::limits::MOST_ORDERS;
 use model::{Refusal, RoundReply};
 use search::Progress;
 
@@ -28,14 +28,10 @@ pub fn resume(state: State) -> Progress
 {
     let latest = state.latest;
     let train = state.train;
-    let no_time = [0; MOST_TRAINS];
     Progress {
         latest,
         train,
-        departure: no_time,
-        arrival: no_time,
-        window: [0; MOST_TRAINS],
-        better: false,
+        recorded: None,
         limit: state.limit,
         last: state.last,
         rounds: state.rounds,

@@ -27,9 +27,9 @@ fn advance(
         (all_areas pairs.old train_of_order.old times.old) }
 {
     let progress = search::round::round(resume(state), sheet);
-    if !progress.better {
+    let Some(timed) = progress.recorded else {
         return keep(progress, state.pairs);
-    }
+    };
     let count = list_pair(
         pairs,
         state.pairs,
@@ -37,12 +37,14 @@ fn advance(
         progress.last,
         progress.limit,
     );
-    let train = progress.train;
-    put_trains(train, sheet.order_count, train_of_order);
-    let departure = progress.departure;
-    let arrival = progress.arrival;
-    let window = progress.window;
-    put_times(departure, arrival, window, sheet.train_count, times);
+    put_trains(progress.train, sheet.order_count, train_of_order);
+    put_times(
+        timed.departure,
+        timed.arrival,
+        timed.window,
+        sheet.train_count,
+        times,
+    );
     keep(progress, count)
 }
 

@@ -64,16 +64,40 @@ loop-progress-preserved-then-progress-wish c =
     let v = c.loop-progress.invariant in
     let going = next s o p r v.0 c.round_from-progress.ensures.is c.round_from-progress.ensures.counts in
     let early = (both p.last c.args.wish (not p.ended) c.loop-progress-test.true).1 in
-    let (is_better, timely) = both r.last c.args.wish r.better c.if-progress-wish.true in
-    let is = next_better s o p r is_better going.1 in
+    let is = next_better s o p r c.in-Some.timed c.in-Some.is going.1 in
     let fits : SFits w64 r.limit = search rules in
     let limit = to_z-of_z {w = w64} fits in (
       going.0,
       rw limit
           (choice_taken s (aim c.args.sheet c.args.outset c.requires.admitted.0 c.requires.sets) c.args.wish p r c.loop-progress.choice _
-          (areas c.args.train_of_order.now c.args.times.now) v.1 early is timely _ _ c.put_trains.ensures c.put_times.ensures),
+          (areas c.args.train_of_order.now c.args.times.now) v.1 early c.in-Some.timed is c.if-progress-wish.true _ _ c.put_trains.ensures c.put_times.ensures),
       omega (arith, c.put_trains.auto, v.2),
       omega (arith, c.put_times.auto, v.3),
+    )
+
+pub loop-progress-smaller-else-progress-wish : goal.loop-progress-smaller-else-progress-wish
+loop-progress-smaller-else-progress-wish c =
+    omega (
+      arith,
+      within c.args.sheet c.args.outset c.requires.admitted.0 c.requires.sets c.loop-progress.progress c.args.wish
+          c.loop-progress.invariant.0 c.loop-progress-test.true,
+      c.round_from-progress.ensures.counts,
+    )
+
+pub loop-progress-preserved-else-progress-wish : goal.loop-progress-preserved-else-progress-wish
+loop-progress-preserved-else-progress-wish c =
+    let s = sheet_of c.args.sheet in
+    let o = outset_of c.args.sheet.order_count c.args.outset in
+    let p = c.loop-progress.progress in
+    let r = c.round_from-progress.result in
+    let v = c.loop-progress.invariant in
+    let going = next s o p r v.0 c.round_from-progress.ensures.is c.round_from-progress.ensures.counts in
+    let early = (both p.last c.args.wish (not p.ended) c.loop-progress-test.true).1 in (
+      going.0,
+      choice_kept s (aim c.args.sheet c.args.outset c.requires.admitted.0 c.requires.sets) c.args.wish p r c.loop-progress.choice _
+          (areas c.args.train_of_order.now c.args.times.now) v.1 early v.0 going.0 going.1 (inr (omega arith)),
+      v.2,
+      v.3,
     )
 
 pub loop-progress-smaller : goal.loop-progress-smaller
@@ -93,11 +117,10 @@ loop-progress-preserved c =
     let r = c.round_from-progress.result in
     let v = c.loop-progress.invariant in
     let going = next s o p r v.0 c.round_from-progress.ensures.is c.round_from-progress.ensures.counts in
-    let early = (both p.last c.args.wish (not p.ended) c.loop-progress-test.true).1 in
-    let why = not_both r.last c.args.wish r.better c.if-progress-wish.false in (
+    let early = (both p.last c.args.wish (not p.ended) c.loop-progress-test.true).1 in (
       going.0,
       choice_kept s (aim c.args.sheet c.args.outset c.requires.admitted.0 c.requires.sets) c.args.wish p r c.loop-progress.choice _
-          (areas c.args.train_of_order.now c.args.times.now) v.1 early v.0 going.0 going.1 why,
+          (areas c.args.train_of_order.now c.args.times.now) v.1 early v.0 going.0 going.1 (inl c.in_default.is),
       v.2,
       v.3,
     )

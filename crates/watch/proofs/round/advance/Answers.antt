@@ -1,6 +1,6 @@
 -- `watch::round::advance` meets its contract: the round of the code is the next one, and a better plan is listed and written. Assumes nothing.
 use Rattle.std.proofs.Common.{◌≡◌, true, length, refl, w64, SFits, to_z-of_z, arith, rules}
-use Rattle.numbers.specs.DecidesLaws.{test_means, by_now, not_yet}
+use Rattle.numbers.specs.DecidesLaws.{test_means}
 use Rattle.model.specs.Memory.{sheet_of}
 use Rattle.model.specs.Sheet.{Sheet}
 use Rattle.rounds.proofs.BoundLaws.{bound_most}
@@ -14,8 +14,8 @@ has_room : (s : Sheet) (found : SearchAreas)
     → search_room s (length found.pairs) (length found.plan.trains) (length found.plan.times) ≡ true → SearchRoom s found
 has_room s found e = test_means (decides_search_room s found) e
 
-pub returns-then-not-progress : goal.returns-then-not-progress
-returns-then-not-progress c =
+pub returns-in_default : goal.returns-in_default
+returns-in_default c =
     let a = c.args in
     let s = sheet_of a.sheet in
     let found = all_areas a.pairs.now a.train_of_order.now a.times.now in
@@ -24,8 +24,7 @@ returns-then-not-progress c =
     rw c.keep.ensures
     (record {
       moves = λ lent calls h.
-          moves_same s a.state c.round-progress.result (rw c.resume.ensures at c.round-progress.ensures.is) lent calls found h
-          (not_yet _ c.if-not-progress.true);
+          moves_same s a.state c.round-progress.result (rw c.resume.ensures at c.round-progress.ensures.is) lent calls found h c.in_default.is;
       within = omega (arith, fits.few_pairs, fits.few_rounds, room.list);
       as_found = λ e. refl;
     })
@@ -54,7 +53,7 @@ returns c =
     rw c.keep-2.ensures
     (record {
       moves = λ lent calls h.
-          moves_better s a.state r (rw c.resume.ensures at c.round-progress.ensures.is) lent calls found h (by_now _ c.if-not-progress.false) _ _ _ _
+          moves_better s a.state r (rw c.resume.ensures at c.round-progress.ensures.is) lent calls found h c.in-Some.timed c.in-Some.is _ _ _ _
           (rw limit at c.list_pair-count.ensures.lists) c.put_trains.ensures c.put_times.ensures c.list_pair-count.auto.pairs c.put_trains.auto.out
           c.put_times.auto.out;
       within = omega (arith, c.list_pair-count.ensures.counts.1, fits.few_pairs, few, room.list, c.list_pair-count.auto.pairs);
