@@ -4,7 +4,7 @@ use Rattle.std.proofs.Common.{◌∙◌, ap, subst, inl, inr, arith}
 use Rattle.model.specs.Sheet.{Sheet}
 use Rattle.model.specs.Refusal.{of_reply, number_of, returned_of}
 use Rattle.model.specs.declared.Row.{Row}
-use Rattle.std.specs.Prelude.{Err}
+use Rattle.std.specs.Prelude.{Ok, Err}
 use Rattle.model.specs.Replies.{CheckReply, checked_as}
 use Rattle.checker.specs.Checking.{SaysYes, CheckingCall}
 use Rattle.exported.proofs.ExportedLaws.{numbered}

@@ -7,7 +7,7 @@ use Rattle.model.specs.Lateness.{Pair, pair_of, pair_at}
 use Rattle.model.specs.Foreign.{RowsFit, trains_told}
 use Rattle.model.specs.Admission.{Admitted}
 use Rattle.model.specs.declared.Row.{Row}
-use Rattle.std.specs.Prelude.{Err}
+use Rattle.std.specs.Prelude.{Ok, Err}
 use Rattle.model.specs.Replies.{CheckReply}
 use Rattle.rounds.specs.ChosenPair.{Unbeaten}
 use Rattle.rounds.specs.Areas.{ListRoom}

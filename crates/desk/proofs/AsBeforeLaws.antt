@@ -8,7 +8,7 @@ use Rattle.model.specs.Limits.{numbers_a_pair, numbers_a_train}
 use Rattle.model.specs.Lateness.{Pair}
 use Rattle.model.specs.Admission.{Admitted}
 use Rattle.model.specs.declared.Refusal.{Refusal}
-use Rattle.std.specs.Prelude.{Err}
+use Rattle.std.specs.Prelude.{Ok, Err}
 use Rattle.model.specs.Replies.{ListReply}
 use Rattle.rounds.specs.Recording.{Entry}
 use Rattle.rounds.specs.Answers.{Answer, refused, given, Listing, list, last_arrival_in}
