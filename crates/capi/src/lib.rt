@@ -19,38 +19,25 @@ ghost use Rattle.rounds.specs.Told.{areas};
 ghost use Rattle.exported.specs.Exported.{windows_read, timetable_read, ExportedReading};
 ghost use Rattle.exported.specs.ExportedPlanning.{ExportedListing, ExportedChoice};
 
-use exported::{Cause, Choice, Listing, TimetableRead, WindowsRead};
+use exported::reading::TextRead;
+use exported::{Choice, Listing};
 use fields::NamePlace;
-use model::{TimetableSheet, WindowSheet};
+use model::{Form, TimetableSheet, WindowSheet};
 
 // Reads a text of the window form.
 #[unsafe(no_mangle)]
-pub extern "C" fn joshkamber_read_windows(text: &[u8]) -> WindowsRead
+pub extern "C" fn joshkamber_read_windows(text: &[u8]) -> TextRead<WindowSheet>
     ensures { ExportedReading text.now (windows_read text.now) result result.cause (window_sheet result.sheet) }
 {
-    let reading = sheet::read_windows(text);
-    let admission = reading.admission;
-    let cause = cause_in(admission);
-    let sheet = reading.sheet;
-    WindowsRead {
-        cause: cause,
-        sheet: sheet,
-    }
+    TextRead::from(sheet::read_form::<WindowSheet>(text))
 }
 
 // Reads a text of the timetable form.
 #[unsafe(no_mangle)]
-pub extern "C" fn joshkamber_read_timetable(text: &[u8]) -> TimetableRead
+pub extern "C" fn joshkamber_read_timetable(text: &[u8]) -> TextRead<TimetableSheet>
     ensures { ExportedReading text.now (timetable_read text.now) result result.cause (timetable_sheet result.sheet) }
 {
-    let reading = sheet::read_timetable(text);
-    let admission = reading.admission;
-    let cause = cause_in(admission);
-    let sheet = reading.sheet;
-    TimetableRead {
-        cause: cause,
-        sheet: sheet,
-    }
+    TextRead::from(sheet::read_form::<TimetableSheet>(text))
 }
 
 // Where the name of an order, numbered from 1, stands in a text of the window form.
@@ -58,7 +45,7 @@ pub extern "C" fn joshkamber_read_timetable(text: &[u8]) -> TimetableRead
 pub extern "C" fn joshkamber_name_in_windows(text: &[u8], order: usize) -> NamePlace
     ensures { result ≡ place_of (name_in Windows text.now order) }
 {
-    sheet::name_place_in_windows(text, order)
+    sheet::order_name_place(text, order, Form::Windows)
 }
 
 // The same for the timetable form.
@@ -66,7 +53,7 @@ pub extern "C" fn joshkamber_name_in_windows(text: &[u8], order: usize) -> NameP
 pub extern "C" fn joshkamber_name_in_timetable(text: &[u8], order: usize) -> NamePlace
     ensures { result ≡ place_of (name_in Timetable text.now order) }
 {
-    sheet::name_place_in_timetable(text, order)
+    sheet::order_name_place(text, order, Form::Timetable)
 }
 
 // Lists the pairs of a sheet of the window form.

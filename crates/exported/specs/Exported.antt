@@ -1,18 +1,23 @@
 -- WHAT THE EXPORTED READING CALLS RETURN AND PROMISE, in numbers: a refusal by document 01's number and returned value.
-use Rattle.std.specs.Prelude.{◌≡◌, true, false, List, ℕ, ◌≤◌, length}
+use Rattle.std.specs.Prelude.{◌≡◌, true, false, List, ℕ, ◌≤◌, length, replicate, Result, Ok, Err}
 use Rattle.model.specs.Sheet.{Sheet}
 use Rattle.model.specs.Limits.{Inside, ◌–◌}
 use Rattle.model.specs.Refusal.{number, returned}
 use Rattle.model.specs.Admission.{Admitted}
 use Rattle.model.specs.declared.Refusal.{Refusal}
-use Rattle.std.specs.Prelude.{Ok, Err}
+use Rattle.model.specs.declared.Form.{Form}
+use Rattle.model.specs.declared.Form.TheVariants.{Windows, Timetable}
+use Rattle.model.specs.declared.Sheet as memory
+use Rattle.model.specs.declared.WindowSheet.{WindowSheet}
+use Rattle.model.specs.declared.TimetableSheet.{TimetableSheet}
+use Rattle.model.specs.Memory.{to_windows, to_timetable}
 use Rattle.model.specs.Replies.{Admission}
+use Rattle.sheet.specs.declared.Reading.{Reading}
 use Rattle.sheet.specs.Sheets.{window_reading, timetable_reading}
 use Rattle.sheet.specs.Reading.{lines_in}
 use Rattle.sheet.specs.ReadingCall.{tells_line, FewPlaces}
 use Rattle.exported.specs.declared.Cause.{Cause}
-use Rattle.exported.specs.declared.WindowsRead.{WindowsRead}
-use Rattle.exported.specs.declared.TimetableRead.{TimetableRead}
+use Rattle.exported.specs.declared.reading.TextRead.{TextRead}
 
 -- 0 and 0 where nothing is refused
 abbrev pub no_cause : Cause
@@ -27,14 +32,38 @@ cause_in (Err r) = cause_of r
 
 -- ---- reading
 
--- a text as read
-unfoldable pub windows_read : List ℕ → WindowsRead
-unfolding window_reading
-windows_read text = record { cause = cause_in (window_reading text).admission; sheet = (window_reading text).sheet }
+-- the empty sheet: noughts
+unfoldable pub no_sheet : Form → memory.Sheet
+no_sheet form =
+    record {
+      form = form;
+      gap = 0;
+      window_count = 0;
+      window_from = replicate 64 0;
+      window_to = replicate 64 0;
+      train_count = 0;
+      capacity = replicate 32 0;
+      running = replicate 32 0;
+      departure = replicate 32 0;
+      arrival = replicate 32 0;
+      order_count = 0;
+      release = replicate 200 0;
+      due = replicate 200 0;
+      weight = replicate 200 0;
+    }
 
-unfoldable pub timetable_read : List ℕ → TimetableRead
-unfolding timetable_reading
-timetable_read text = record { cause = cause_in (timetable_reading text).admission; sheet = (timetable_reading text).sheet }
+-- a text as read: its sheet, or the cause beside the empty sheet
+abbrev pub text_read : {S : Type 0} → (empty : S) → Result (Reading S) Refusal → TextRead S
+text_read empty (Ok r) = record { cause = no_cause; sheet = r.sheet }
+text_read empty (Err r) = record { cause = cause_of r; sheet = empty }
+
+unfoldable pub windows_read : List ℕ → TextRead WindowSheet
+unfolding window_reading no_sheet
+windows_read text = text_read (to_windows (no_sheet Windows)) (window_reading text)
+
+unfoldable pub timetable_read : List ℕ → TextRead TimetableSheet
+unfolding timetable_reading no_sheet
+timetable_read text = text_read (to_timetable (no_sheet Timetable)) (timetable_reading text)
 
 -- AN EXPORTED READING CALL gives what the definition gives for the text, and says of its cause and of the sheet in it
 pub record ExportedReading {R : Type 0} (text : List ℕ) (defined given : R) (cause : Cause) (sheet : Sheet) : Type 0 where

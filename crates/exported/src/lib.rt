@@ -1,12 +1,13 @@
-// What the exported calls return: structs laid out as in C, in document 01's numbers. Here a cause, a text as read, a listing and a choice, and in `bounding` a
-// figure; `checked` and `watched` have what those calls return, and `capi` the calls.
+// What the exported calls return: structs laid out as in C, in document 01's numbers. Here a cause, a listing and a choice, in `reading` a text as read, and in
+// `bounding` a figure; `checked` and `watched` have what those calls return, and `capi` the calls.
 #![tactic(auto)]
 
 pub mod bounding;
+pub mod reading;
 
 ghost use Rattle.std.specs.Prelude.{◌≡◌};
 
-use model::{Listed, PlanPair, Refusal, TimetableSheet, WindowSheet};
+use model::{Listed, PlanPair, Refusal};
 
 // Why an input is refused: document 01's number and returned value. 0 and 0 say that it is not.
 #[repr(C)]
@@ -14,22 +15,6 @@ use model::{Listed, PlanPair, Refusal, TimetableSheet, WindowSheet};
 pub struct Cause {
     pub number: usize,
     pub returned: usize,
-}
-
-// A text of the window form as read: the sheet, or the cause beside the empty sheet.
-#[repr(C)]
-#[derive(Clone, Copy)]
-pub struct WindowsRead {
-    pub cause: Cause,
-    pub sheet: WindowSheet,
-}
-
-// The same for the timetable form.
-#[repr(C)]
-#[derive(Clone, Copy)]
-pub struct TimetableRead {
-    pub cause: Cause,
-    pub sheet: TimetableSheet,
 }
 
 // What listing the pairs of a sheet gives: how many pairs are listed and how many rounds were made, or the cause beside 0 and 0.
@@ -67,19 +52,6 @@ impl From<Refusal> for Cause {
         Cause {
             number: refusal.number(),
             returned: refusal.returned(),
-        }
-    }
-}
-
-impl From<Result<(), Refusal>> for Cause {
-    ghost use Rattle.exported.specs.Exported.{cause_in};
-
-    ghost from_gives = { λ tested cause. cause ≡ cause_in tested };
-
-    fn from(tested: Result<(), Refusal>) -> Cause {
-        match tested {
-            Ok(()) => Cause::NONE,
-            Err(refusal) => Cause::from(refusal),
         }
     }
 }

@@ -4,11 +4,13 @@ use Rattle.std.proofs.Common.{◌∙◌, ap, subst, arith}
 use Rattle.model.specs.Sheet.{Sheet}
 use Rattle.model.specs.Limits.{numbers_a_pair}
 use Rattle.model.specs.Refusal.{of_round, number_of, returned_of}
-use Rattle.std.specs.Prelude.{Ok, Err}
+use Rattle.std.specs.Prelude.{Result, Ok, Err}
+use Rattle.model.specs.declared.Refusal.{Refusal}
 use Rattle.model.specs.Replies.{Admission}
 use Rattle.model.specs.declared.RoundReply.{RoundReply}
 use Rattle.model.specs.declared.RoundReply.TheVariants.{GoesOn, Ended, Refused}
 use Rattle.rounds.specs.ByRound.{SearchAreas}
+use Rattle.watch.specs.State.{no_state}
 use Rattle.watch.specs.Calls.{StartCall, RoundCall}
 use Rattle.watch.specs.declared.State.{State}
 use Rattle.watch.specs.declared.Moved.{Moved}

@@ -1,12 +1,11 @@
 -- `joshkamber_read_windows` meets its contract: it tells what the reading call says. Assumes nothing.
+use Rattle.std.proofs.Common.{refl}
 use Rattle.model.specs.Memory.{window_sheet}
-use Rattle.exported.specs.Exported.{windows_read}
+use Rattle.sheet.specs.Sheets.{window_reading}
+use Rattle.exported.specs.Exported.{no_sheet, windows_read}
 use Rattle.exported.proofs.ExportedLaws.{exported_reading}
 use Rattle.capi.proofs.joshkamber_read_windows.Goals as goal
 
 pub returns : goal.returns
-unfolding windows_read
-returns c =
-    let cause = c.cause_in-cause.ensures in
-    let read = c.read_windows-reading in
-    exported_reading _ _ _ read.result.admission (window_sheet read.result.sheet) _ _ _ read.ensures cause (rw (cause, read.ensures.equal))
+unfolding windows_read window_reading no_sheet
+returns c = exported_reading window_sheet _ _ c.read_form.result _ _ (refl, refl) c.read_form.ensures c.from.ensures
