@@ -2,8 +2,7 @@
 ghost use Rattle.std.specs.Prelude.{◌≡◌};
 ghost use Rattle.gather.specs.Tests.{of_form};
 
-use crate::SheetLines;
-use crate::more_lines::kind_of;
+use crate::{Kind, SheetLines};
 use lines::Line;
 use model::limits::{LEAST_GAP, MOST_GAP, in_range};
 use model::{Form, Refusal};
@@ -30,7 +29,7 @@ impl SheetLines {
         requires { Counts self.now }
         ensures { result ≡ kind_tests self.now read }
     {
-        let late_enough = self.above <= Some(kind_of(read));
+        let late_enough = self.above <= Some(Kind::from(read));
         match read {
             Line::Gap(g) => LineTests {
                 late_enough,

@@ -1,20 +1,22 @@
 // What the lines so far say, with one line more.
-ghost use Rattle.std.specs.Prelude.{◌≡◌};
-ghost use Rattle.gather.specs.SheetLines.{kind};
-
 use crate::{Kind, SheetLines};
 use lines::Line;
 use rows::{OrderRows, TrainRows, WindowRows};
 
 // The kind of a line.
-pub fn kind_of(read: Line) -> Kind
-    ensures { result ≡ kind read }
-{
-    match read {
-        Line::Gap(_) => Kind::Gap,
-        Line::Window(_) => Kind::Window,
-        Line::Train(_) | Line::FixedTrain(_) => Kind::Train,
-        Line::Order(_) => Kind::Order,
+impl From<Line> for Kind {
+    ghost use Rattle.std.specs.Prelude.{◌≡◌};
+    ghost use Rattle.gather.specs.SheetLines.{kind};
+
+    ghost from_gives = { λ read k. k ≡ kind read };
+
+    fn from(read: Line) -> Kind {
+        match read {
+            Line::Gap(_) => Kind::Gap,
+            Line::Window(_) => Kind::Window,
+            Line::Train(_) | Line::FixedTrain(_) => Kind::Train,
+            Line::Order(_) => Kind::Order,
+        }
     }
 }
 
@@ -47,7 +49,7 @@ impl SheetLines {
         requires { OneMore self.old read }
         ensures { self.new ≡ with_line self.old read }
     {
-        self.above = Some(kind_of(read));
+        self.above = Some(read.into());
         match read {
             Line::Gap(g) => self.gap = Some(g.gap),
             Line::Window(w) => self.windows.push(w),

@@ -36,16 +36,26 @@ module _ {S : Type 0} (meant : S → Sheet) (columns : memory.Sheet → S) (form
             (λ s good named ended. record { few = good.orders.few; names = named }) r (sym e ∙ f);
       }
 
-  -- it is made of what the call gives that gives the sheet in memory
-  pub columns_read : (r : Reading memory.Sheet) → reading form text ≡ Ok r
+  columns_read : (r : Reading memory.Sheet) → reading form text ≡ Ok r
       → reading_as columns form text ≡ Ok (record { sheet = columns r.sheet; names = r.names })
   unfolding reading_as reading
-  columns_read r e = let (s, of, made) = made_of (λ s. s) form (read_from form text 0) r e in
+  columns_read r e =
+      let (s, of, made) = made_of (λ s. s) form (read_from form text 0) r e in
       ap (reading_of columns form) of ∙ ap (λ (r : Reading memory.Sheet). Ok (record { sheet = columns r.sheet; names = r.names })) (sym made)
 
-  pub columns_refused : (r : Refusal) → reading form text ≡ Err r → reading_as columns form text ≡ Err r
+  columns_refused : (r : Refusal) → reading form text ≡ Err r → reading_as columns form text ≡ Err r
   unfolding reading_as reading
   columns_refused r e = ap (reading_of columns form) (refused_of (λ s. s) form (read_from form text 0) r e)
+
+  -- it gives the columns of what the call of this form gives, or its refusal
+  pub columns_given : (k : Form) → k ≡ form → (r : Reading memory.Sheet) → ReadingCall sheet_of text (reading k text) (Ok r)
+      → ReadingCall meant text (reading_as columns form text) (Ok (record { sheet = columns r.sheet; names = r.names }))
+  columns_given k e r call =
+      reads_as (Ok (record { sheet = columns r.sheet; names = r.names })) (sym (columns_read r (ap (λ (f : Form). reading f text) (sym e) ∙ sym call.equal)))
+
+  pub refusal_given : (k : Form) → k ≡ form → (q : Refusal) → ReadingCall sheet_of text (reading k text) (Err q)
+      → ReadingCall meant text (reading_as columns form text) (Err q)
+  refusal_given k e q call = reads_as (Err q) (sym (columns_refused q (ap (λ (f : Form). reading f text) (sym e) ∙ sym call.equal)))
 
 pub reads : (form : Form) (text : List ℕ) (x : Result (Reading memory.Sheet) Refusal) → x ≡ reading form text
     → ReadingCall sheet_of text (reading form text) x

@@ -7,23 +7,25 @@ use crate::walk::lines_from;
 use gather::SheetLines;
 use model::{Form, Refusal};
 
-// A reader at the first line.
-fn open<'a>(text: &'a [u8]) -> Reader<'a>
-    ensures { (result.text ≡ text.entry) × (result.at ≡ 0) }
-{
-    Reader { text, at: 0 }
-}
+impl<'a> Reader<'a> {
+    // A reader at the first line.
+    fn open(text: &'a [u8]) -> Reader<'a>
+        ensures { (result.text ≡ text.entry) × (result.at ≡ 0) }
+    {
+        Reader { text, at: 0 }
+    }
 
-// The lines from the reader's position on.
-fn rest<'a>(reader: Reader<'a>, form: Form) -> Result<SheetLines, Refusal>
-    ensures { result ≡ read_from form reader.entry.text.now reader.entry.at }
-{
-    lines_from(reader.text, reader.at, form)
+    // The lines from the reader's position on.
+    fn rest(self, form: Form) -> Result<SheetLines, Refusal>
+        ensures { result ≡ read_from form self.entry.text.now self.entry.at }
+    {
+        lines_from(self.text, self.at, form)
+    }
 }
 
 // All lines of a text.
 pub fn whole(text: &[u8], form: Form) -> Result<SheetLines, Refusal>
     ensures { result ≡ read_from form text.now 0 }
 {
-    rest(open(text), form)
+    Reader::open(text).rest(form)
 }

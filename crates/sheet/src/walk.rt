@@ -13,6 +13,7 @@ pub fn lines_from(text: &[u8], start: usize, form: Form) -> Result<SheetLines, R
     let mut lines = SheetLines::default();
     let mut p = start;
     let mut line: usize = 1;
+    // Where a line ends is known only once it is read: no range or slice has the positions that a `for` could go over.
     while p < text.len() {
         let LineAt { line: read, next } = line_at(text, p, line)?;
         lines.line_fault(form, line, read)?;
