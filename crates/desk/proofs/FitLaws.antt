@@ -7,11 +7,10 @@ use Rattle.model.specs.Memory.{sheet_of}
 use Rattle.model.specs.Limits.{most_printed}
 use Rattle.model.specs.Lateness.{Pair, pair_at}
 use Rattle.model.specs.Admission.{Admitted}
-use Rattle.model.specs.Refusal.{returned}
 use Rattle.model.specs.declared.Refusal.{Refusal}
 use Rattle.model.specs.declared.Refusal.TheVariants.{NoSchedule}
-use Rattle.std.specs.Prelude.{Ok, Err}
-use Rattle.model.specs.Replies.{Admission}
+use Rattle.std.specs.Prelude.{Result, Ok, Err}
+use Rattle.model.specs.declared.Sheet.{Sheet as SheetInMemory}
 use Rattle.rounds.specs.Answers.{Answer, given, Listing, list}
 use Rattle.rounds.specs.Areas.{pair_numbers, time_numbers, plan_times}
 use Rattle.rounds.proofs.AreaLaws.{pair_numbers_length, plan_times_length}
@@ -22,12 +21,13 @@ use Rattle.rounds.proofs.SizeLaws.{list_sizes, plan_sizes}
 use Rattle.fields.specs.NamePlaces.{NamesLie}
 use Rattle.fields.specs.declared.NamePlaces.{NamePlaces}
 use Rattle.sheet.specs.Sheets.{reading}
-use Rattle.sheet.proofs.AdmissionLaws.{read_admitted}
-use Rattle.sheet.proofs.NameLaws.{names_lie}
-use Rattle.sheet.proofs.ReturnedLaws.{text_refusal, returned_bound}
+use Rattle.sheet.specs.declared.Reading.{Reading}
+use Rattle.sheet.specs.ReadingCall.{ReadingCall}
+use Rattle.sheet.proofs.ReadingCallLaws.{reads}
+use Rattle.sheet.proofs.ReturnedLaws.{returned_bound}
 use Rattle.printer.proofs.PlanLengthLaws.{plan_short}
 use Rattle.layout.proofs.LengthLaws.{refusal_line_short}
-use Rattle.desk.specs.Printing.{AdmittedBytes, TextBytes, form_of}
+use Rattle.desk.specs.Printing.{ReadBytes, TextBytes, form_of}
 use Rattle.desk.specs.AnswerBytes.{last_recorded, listing_bytes, answer_bytes}
 use Rattle.desk.proofs.AsBeforeLaws.{last_planned, as_before}
 
@@ -101,16 +101,13 @@ module _ (text : List ℕ) (names : NamePlaces) (named : NamesLie text names) (s
 
 -- ---- whatever is printed
 
-module _ (text : List ℕ) (bytes : List ℕ) where
-  admitted_fits : (x : Admission) (names : NamePlaces) (s : Sheet) → NamesLie text names → (x ≡ Ok tt → Admitted s)
-      → ((q : Refusal) → x ≡ Err q → returned q < 2 ^ 64) → AdmittedBytes x text names s bytes → length bytes ≤ most_printed
-  admitted_fits (Err q) names s named read line e = rw e (omega (arith, refusal_line_short q (line q refl)))
-  admitted_fits (Ok _) names s named read line p = rw (as_before text names s bytes (read refl) p) (answer_short text names named s (read refl))
+module _ (text : List ℕ) (bytes : List ℕ) (short : length text < 2 ^ 64) where
+  read_fits : {defined : Result (Reading SheetInMemory) Refusal} (x : Result (Reading SheetInMemory) Refusal) → ReadingCall sheet_of text defined x
+      → ReadBytes text x bytes → length bytes ≤ most_printed
+  read_fits (Err q) call e = rw e (omega (arith, refusal_line_short q (omega (arith, returned_bound text q (call.refused q refl)))))
+  read_fits (Ok r) call p =
+      let a = call.admitted r refl in
+      rw (as_before text r.names (sheet_of r.sheet) bytes a p) (answer_short text r.names (call.names_lie r refl) (sheet_of r.sheet) a)
 
-  pub text_fits : length text < 2 ^ 64 → TextBytes text bytes → length bytes ≤ most_printed
-  unfolding reading
-  text_fits short p =
-      let form = form_of text in
-      let x = reading form text in
-      admitted_fits x.admission x.names (sheet_of x.sheet) (names_lie form text) (read_admitted form text)
-      (λ q u. omega (arith, returned_bound text q (text_refusal form text q u))) p
+  pub text_fits : TextBytes text bytes → length bytes ≤ most_printed
+  text_fits p = let form = form_of text in read_fits (reading form text) (reads form text (reading form text) refl) p

@@ -7,6 +7,7 @@ use Rattle.model.specs.Sheet.{Sheet}
 use Rattle.model.specs.Limits.{order_counts, most_time_numbers}
 use Rattle.model.specs.Admission.{Admitted}
 use Rattle.model.specs.Replies.{listed_as}
+use Rattle.model.specs.declared.Listed.{Listed}
 use Rattle.rounds.specs.Answers.{Answer, refused, given, Listing, list, last_arrival_in}
 use Rattle.rounds.specs.Areas.{PlanAreas, PlanRoom, list_room, list_to, choose_to, list_reply, list_left, pair_numbers}
 use Rattle.rounds.proofs.AimLaws.{whole}
@@ -19,6 +20,11 @@ use Rattle.planner.specs.Listing.{ListingCall}
 use Rattle.desk.specs.AnswerBytes.{last_recorded}
 
 -- ---- the listing
+
+same_counts : (pairs rounds count made : ℕ) → listed_as pairs rounds ≡ listed_as count made → (pairs ≡ count) × (rounds ≡ made)
+same_counts pairs rounds count made e =
+    let same : ◌≡◌ {A = Listed} (record { pairs = pairs; rounds = rounds }) (record { pairs = count; rounds = made }) = cc in
+    (ap (λ (l : Listed). l.pairs) same, ap (λ (l : Listed). l.rounds) same)
 
 -- the sheet of an accepted call is admitted, and the area holds what the rounds list
 pub record HasListed (s : Sheet) (count rounds : ℕ) (left found : List ℤ) : Type 0 where
@@ -40,7 +46,8 @@ module _ (s : Sheet) (count rounds : ℕ) (left found : List ℤ) where
       go (given l) u e f =
           let room = list_room s (length found) in
           let (granted, is) = accepted s room (list s) u in
-          record { admitted = (passed s room granted).0; listing = l; is = is; many = cc; counted = cc; area = f }
+          let same = same_counts count rounds (length l.pairs) l.rounds e in
+          record { admitted = (passed s room granted).0; listing = l; is = is; many = same.0; counted = same.1; area = f }
 
   -- the pairs that are read are those that are listed
   pub pairs_listed : (h : HasListed s count rounds left found) → pairs_in count left ≡ h.listing.pairs

@@ -7,8 +7,8 @@ use Rattle.model.specs.Sheet.{Sheet}
 use Rattle.model.specs.Memory.{sheet_of}
 use Rattle.model.specs.Limits.{order_counts, numbers_a_pair, numbers_a_train, most_pair_numbers, most_time_numbers}
 use Rattle.model.specs.declared.Form.{Form}
-use Rattle.model.specs.declared.Form.TheVariants.{Windows, Timetable}
-use Rattle.std.specs.Prelude.{Ok, Err}
+use Rattle.std.specs.Prelude.{Result, Ok, Err}
+use Rattle.model.specs.declared.Sheet.{Sheet as SheetInMemory}
 use Rattle.model.specs.Replies.{ListReply, ChoiceReply, listed_as}
 use Rattle.model.specs.declared.Refusal.{Refusal}
 use Rattle.rounds.specs.Answers.{given, last_arrival_in}
@@ -103,18 +103,19 @@ module _ (s : Sheet) (count rounds : ℕ) (pairs : List ℤ) (x : ChoiceReply) (
       }
 
 -- of the reading x of a text by its form
-module _ (text : List ℕ) (form : Form) (by_form : form ≡ form_of text) (x : Reading) (read : x ≡ reading form text)
+module _ (text : List ℕ) (form : Form) (by_form : form ≡ form_of text) (x : Result (Reading SheetInMemory) Refusal) (read : x ≡ reading form text)
     {found : List ℕ} {r : Option ℕ} {after : List ℕ} where
   put_text : Put (ReadBytes text x) found r after → Put (TextBytes text) found r after
   put_text p =
       subst (λ (f : Form). Put (ReadBytes text (reading f text)) found r after) by_form
-      (subst (λ (y : Reading). Put (ReadBytes text y) found r after) read p)
+      (subst (λ (y : Result (Reading SheetInMemory) Refusal). Put (ReadBytes text y) found r after) read p)
 
-  pub reading_refused : (q : Refusal) → x.admission ≡ Err q → Prints (refusal_line q) found r after → Put (TextBytes text) found r after
+  pub reading_refused : (q : Refusal) → x ≡ Err q → Prints (refusal_line q) found r after → Put (TextBytes text) found r after
   reading_refused q e h = put_text (rw e (record { bytes = refusal_line q; of_text = refl; prints = h }))
 
-  pub sheet_put : x.admission ≡ Ok tt → Put (SheetBytes text x.names (sheet_of x.sheet)) found r after → Put (TextBytes text) found r after
-  sheet_put e p = put_text (rw e p)
+  pub sheet_put : (y : Reading SheetInMemory) → x ≡ Ok y → Put (SheetBytes text y.names (sheet_of y.sheet)) found r after
+      → Put (TextBytes text) found r after
+  sheet_put y e p = put_text (rw e p)
 
 -- ---- all of it is printed
 

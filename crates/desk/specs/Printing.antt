@@ -1,5 +1,5 @@
 -- DOCUMENT 01, "THE PRINTED PLAN", AND DOCUMENT 02, NO. 1: WHAT IS PRINTED OF A TEXT.
-use Rattle.std.specs.Prelude.{◌≡◌, cond, Option, List, ℕ, ◌*◌, ◌≤◌, eqb, ℤ, length, take}
+use Rattle.std.specs.Prelude.{◌≡◌, cond, Option, Result, Ok, Err, List, ℕ, ◌*◌, ◌≤◌, eqb, ℤ, length, take}
 use Rattle.numbers.specs.Counting.{at}
 use Rattle.numbers.specs.Over.{over}
 use Rattle.model.specs.Sheet.{Sheet}
@@ -8,8 +8,9 @@ use Rattle.model.specs.Lateness.{Pair}
 use Rattle.model.specs.Limits.{order_counts, numbers_a_pair, numbers_a_train, most_pair_numbers, most_time_numbers}
 use Rattle.model.specs.declared.Form.{Form}
 use Rattle.model.specs.declared.Form.TheVariants.{Windows, Timetable}
-use Rattle.std.specs.Prelude.{Ok, Err}
-use Rattle.model.specs.Replies.{Admission, ListReply, chosen_as}
+use Rattle.model.specs.declared.Refusal.{Refusal}
+use Rattle.model.specs.declared.Sheet.{Sheet as SheetInMemory}
+use Rattle.model.specs.Replies.{ListReply, chosen_as}
 use Rattle.rounds.specs.Answers.{last_arrival_in}
 use Rattle.rounds.specs.Areas.{PlanAreas}
 use Rattle.fields.specs.declared.NamePlaces.{NamePlaces}
@@ -54,15 +55,11 @@ pub record SheetBytes (text : List ℕ) (names : NamePlaces) (s : Sheet) (bytes 
   pub printed : ListBytes reply text names s left bytes
 
 -- by what the reading call says: "A refusal prints only `E,number,returned`", and of a sheet its pairs are listed
-abbrev pub AdmittedBytes : Admission → (text : List ℕ) → NamePlaces → Sheet → (bytes : List ℕ) → Type 0
-AdmittedBytes (Err refusal) text names s bytes = bytes ≡ refusal_line refusal
-AdmittedBytes (Ok _) text names s bytes = SheetBytes text names s bytes
+abbrev pub ReadBytes : (text : List ℕ) → Result (Reading SheetInMemory) Refusal → (bytes : List ℕ) → Type 0
+ReadBytes text (Err refusal) bytes = bytes ≡ refusal_line refusal
+ReadBytes text (Ok r) bytes = SheetBytes text r.names (sheet_of r.sheet) bytes
 
--- of what a reading call gave
-abbrev pub ReadBytes : (text : List ℕ) → Reading → (bytes : List ℕ) → Type 0
-ReadBytes text x bytes = AdmittedBytes x.admission text x.names (sheet_of x.sheet) bytes
-
--- and of a text
+-- so of a text
 abbrev pub TextBytes : (text bytes : List ℕ) → Type 0
 TextBytes text bytes = ReadBytes text (reading (form_of text) text) bytes
 

@@ -3,14 +3,15 @@
 
 ghost use Rattle.std.specs.Prelude.{◌≡◌, List, ℤ};
 ghost use Rattle.model.specs.Memory.{sheet_of};
-ghost use Rattle.model.specs.declared.ListReply.TheVariants.{Listed};
+ghost use Rattle.model.specs.Replies.{listed_as};
 ghost use Rattle.planner.specs.Listing.{ListingCall};
 ghost use Rattle.desk.specs.Printing.{form_of, PlanBytes, SheetBytes, TextBytes, TextPrinted, Put};
 
 use areas::{first_orders, first_pairs, first_times, last_arrival};
 use fields::NamePlaces;
 use model::limits::{MOST_ORDERS, MOST_PAIR_NUMBERS, MOST_PRINTED, MOST_TIME_NUMBERS};
-use model::{Form, Sheet};
+use model::{Form, Listed, Sheet};
+use sheet::Reading;
 
 // Reads a text, lists the pairs of its sheet, chooses the plan for the last of them, and prints it or the refusal to the front of the page, which is long
 // enough for each. Gives how many bytes it printed.
@@ -26,14 +27,10 @@ fn put_text(text: &[u8], out: &mut [u8]) -> Option<usize>
     ensures { Put (TextBytes text.now) out.old result out.new }
 {
     let form = form_of(text);
-    let reading = sheet::read(text, form);
-    let admission = reading.admission;
-    let sheet = reading.sheet;
-    let names = reading.names;
-    if let Err(refusal) = admission {
-        return printer::print_refusal(refusal, out);
+    match sheet::read(text, form) {
+        Ok(Reading { sheet, names }) => put_sheet(text, names, sheet, out),
+        Err(refusal) => printer::print_refusal(refusal, out),
     }
-    put_sheet(text, names, sheet, out)
 }
 
 // A first byte `X` means the timetable form.
@@ -52,12 +49,13 @@ fn put_sheet(text: &[u8], names: NamePlaces, sheet: Sheet, out: &mut [u8]) -> Op
     ensures { Put (SheetBytes text.now names (sheet_of sheet)) out.old result out.new }
 {
     let mut pairs: [i64; MOST_PAIR_NUMBERS] = [0; MOST_PAIR_NUMBERS];
-    let reply = listing::list(sheet, &mut pairs);
-    match reply {
-        ListReply::Listed {
-            pairs: count,
-            rounds,
-        } => put_plan(text, names, sheet, &pairs, count, rounds, out),
+    match listing::list(sheet, &mut pairs) {
+        Ok(
+            Listed {
+                pairs: count,
+                rounds,
+            },
+        ) => put_plan(text, names, sheet, &pairs, count, rounds, out),
         Err(refusal) => printer::print_refusal(refusal, out),
     }
 }
@@ -73,7 +71,7 @@ fn put_plan(
     rounds: usize,
     out: &mut [u8],
 ) -> Option<usize>
-    requires { (found : List ℤ) × ListingCall (sheet_of sheet) (Listed count rounds) pairs.now found }
+    requires { (found : List ℤ) × ListingCall (sheet_of sheet) (listed_as count rounds) pairs.now found }
     ensures { Put (PlanBytes text.now names (sheet_of sheet) count rounds pairs.now)
         out.old result out.new }
 {

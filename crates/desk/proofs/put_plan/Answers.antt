@@ -6,8 +6,8 @@ use Rattle.desk.proofs.PrintingLaws.{chosen_last, never_refused, plan_printed}
 use Rattle.desk.proofs.put_plan.Goals as goal
 
 -- a refusal is told only where there is none
-pub returns-in-Refused : goal.returns-in-Refused
-returns-in-Refused c =
+pub returns-in-Err : goal.returns-in-Err
+returns-in-Err c =
     let a = c.args in
     let s = sheet_of a.sheet in
     let left = areas c.choose-choice.new.train_of_order c.choose-choice.new.times in
@@ -15,7 +15,7 @@ returns-in-Refused c =
     chosen_last s a.count a.rounds a.pairs.now c.choose-choice.result left c.requires c.last_arrival-wish.result c.last_arrival-wish.ensures
     _ refl refl c.choose-choice.ensures
     in
-    absurd (never_refused s a.count a.rounds a.pairs.now c.choose-choice.result left chosen c.in-Refused.refusal c.in-Refused.is)
+    absurd (never_refused s a.count a.rounds a.pairs.now c.choose-choice.result left chosen c.in-Err.refusal c.in-Err.is)
 
 pub returns : goal.returns
 returns c =
