@@ -19,25 +19,25 @@ ghost use Rattle.rounds.specs.Told.{areas};
 ghost use Rattle.exported.specs.Exported.{windows_read, timetable_read, ExportedReading};
 ghost use Rattle.exported.specs.ExportedPlanning.{ExportedListing, ExportedChoice};
 
-use exported::reading::TextRead;
+use exported::reading::{TimetableRead, WindowsRead};
 use exported::{Choice, Listing};
 use fields::NamePlace;
 use model::{Form, TimetableSheet, WindowSheet};
 
 // Reads a text of the window form.
 #[unsafe(no_mangle)]
-pub extern "C" fn joshkamber_read_windows(text: &[u8]) -> TextRead<WindowSheet>
+pub extern "C" fn joshkamber_read_windows(text: &[u8]) -> WindowsRead
     ensures { ExportedReading text.now (windows_read text.now) result result.cause (window_sheet result.sheet) }
 {
-    TextRead::from(sheet::read_form::<WindowSheet>(text))
+    WindowsRead::from(sheet::read_form(text))
 }
 
 // Reads a text of the timetable form.
 #[unsafe(no_mangle)]
-pub extern "C" fn joshkamber_read_timetable(text: &[u8]) -> TextRead<TimetableSheet>
+pub extern "C" fn joshkamber_read_timetable(text: &[u8]) -> TimetableRead
     ensures { ExportedReading text.now (timetable_read text.now) result result.cause (timetable_sheet result.sheet) }
 {
-    TextRead::from(sheet::read_form::<TimetableSheet>(text))
+    TimetableRead::from(sheet::read_form(text))
 }
 
 // Where the name of an order, numbered from 1, stands in a text of the window form.

@@ -17,7 +17,8 @@ use Rattle.sheet.specs.Sheets.{window_reading, timetable_reading}
 use Rattle.sheet.specs.Reading.{lines_in}
 use Rattle.sheet.specs.ReadingCall.{tells_line, FewPlaces}
 use Rattle.exported.specs.declared.Cause.{Cause}
-use Rattle.exported.specs.declared.reading.TextRead.{TextRead}
+use Rattle.exported.specs.declared.reading.WindowsRead.{WindowsRead}
+use Rattle.exported.specs.declared.reading.TimetableRead.{TimetableRead}
 
 -- 0 and 0 where nothing is refused
 abbrev pub no_cause : Cause
@@ -52,18 +53,23 @@ no_sheet form =
       weight = replicate 200 0;
     }
 
--- a text as read: its sheet, or the cause beside the empty sheet
-abbrev pub text_read : {S : Type 0} → (empty : S) → Result (Reading S) Refusal → TextRead S
-text_read empty (Ok r) = record { cause = no_cause; sheet = r.sheet }
-text_read empty (Err r) = record { cause = cause_of r; sheet = empty }
+-- what a reading call gives: its sheet, or the cause beside the empty sheet
+abbrev pub windows_told : Result (Reading WindowSheet) Refusal → WindowsRead
+windows_told (Ok r) = record { cause = no_cause; sheet = r.sheet }
+windows_told (Err r) = record { cause = cause_of r; sheet = to_windows (no_sheet Windows) }
 
-unfoldable pub windows_read : List ℕ → TextRead WindowSheet
+abbrev pub timetable_told : Result (Reading TimetableSheet) Refusal → TimetableRead
+timetable_told (Ok r) = record { cause = no_cause; sheet = r.sheet }
+timetable_told (Err r) = record { cause = cause_of r; sheet = to_timetable (no_sheet Timetable) }
+
+-- a text as read
+unfoldable pub windows_read : List ℕ → WindowsRead
 unfolding window_reading no_sheet
-windows_read text = text_read (to_windows (no_sheet Windows)) (window_reading text)
+windows_read text = windows_told (window_reading text)
 
-unfoldable pub timetable_read : List ℕ → TextRead TimetableSheet
+unfoldable pub timetable_read : List ℕ → TimetableRead
 unfolding timetable_reading no_sheet
-timetable_read text = text_read (to_timetable (no_sheet Timetable)) (timetable_reading text)
+timetable_read text = timetable_told (timetable_reading text)
 
 -- AN EXPORTED READING CALL gives what the definition gives for the text, and says of its cause and of the sheet in it
 pub record ExportedReading {R : Type 0} (text : List ℕ) (defined given : R) (cause : Cause) (sheet : Sheet) : Type 0 where

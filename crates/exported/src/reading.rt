@@ -5,15 +5,23 @@ ghost use Rattle.exported.specs.Exported.{no_sheet};
 use crate::Cause;
 use borders::SheetOfForm;
 use model::limits::{MOST_ORDERS, MOST_TRAINS, MOST_WINDOWS};
-use model::{Form, Refusal, Sheet};
+use model::{Form, Refusal, Sheet, TimetableSheet, WindowSheet};
 use sheet::Reading;
 
-// A text as read: the sheet, as the struct of its form, or the cause beside the empty sheet.
+// A text of the window form as read: the sheet, or the cause beside the empty sheet. An exported call returns no generic struct, so each form has its own.
 #[repr(C)]
 #[derive(Clone, Copy)]
-pub struct TextRead<S> {
+pub struct WindowsRead {
     pub cause: Cause,
-    pub sheet: S,
+    pub sheet: WindowSheet,
+}
+
+// The same for the timetable form.
+#[repr(C)]
+#[derive(Clone, Copy)]
+pub struct TimetableRead {
+    pub cause: Cause,
+    pub sheet: TimetableSheet,
 }
 
 // The empty sheet.
@@ -39,20 +47,39 @@ fn no_sheet(form: Form) -> Sheet
     }
 }
 
-impl<S: SheetOfForm> From<Result<Reading<S>, Refusal>> for TextRead<S> {
-    ghost use Rattle.exported.specs.Exported.{text_read};
+impl From<Result<Reading<WindowSheet>, Refusal>> for WindowsRead {
+    ghost use Rattle.exported.specs.Exported.{windows_told};
 
-    ghost from_gives = { λ reply read. read ≡ text_read (S.columns_of (no_sheet S.form)) reply };
+    ghost from_gives = { λ reply read. read ≡ windows_told reply };
 
-    fn from(reply: Result<Reading<S>, Refusal>) -> TextRead<S> {
+    fn from(reply: Result<Reading<WindowSheet>, Refusal>) -> WindowsRead {
         match reply {
-            Ok(reading) => TextRead {
+            Ok(reading) => WindowsRead {
                 cause: Cause::NONE,
                 sheet: reading.sheet,
             },
-            Err(refusal) => TextRead {
+            Err(refusal) => WindowsRead {
                 cause: Cause::from(refusal),
-                sheet: S::of_sheet(no_sheet(S::form())),
+                sheet: WindowSheet::of_sheet(no_sheet(Form::Windows)),
+            },
+        }
+    }
+}
+
+impl From<Result<Reading<TimetableSheet>, Refusal>> for TimetableRead {
+    ghost use Rattle.exported.specs.Exported.{timetable_told};
+
+    ghost from_gives = { λ reply read. read ≡ timetable_told reply };
+
+    fn from(reply: Result<Reading<TimetableSheet>, Refusal>) -> TimetableRead {
+        match reply {
+            Ok(reading) => TimetableRead {
+                cause: Cause::NONE,
+                sheet: reading.sheet,
+            },
+            Err(refusal) => TimetableRead {
+                cause: Cause::from(refusal),
+                sheet: TimetableSheet::of_sheet(no_sheet(Form::Timetable)),
             },
         }
     }
