@@ -246,30 +246,34 @@ module _ (g : ℕ) (running departure : List ℕ) where
   abbrev arrives : ℕ → ℕ
   arrives = arrival_behind g (nth running) (nth departure)
 
-  pub arrivals_first : take 1 (replicate train_counts.most (at departure 0 + at running 0)) ≡ row arrives 1
+  pub arrivals_first : (i own : ℕ) → i ≡ 1 → own ≡ nth departure i + nth running i → take i (replicate train_counts.most own) ≡ row arrives i
   unfolding table
-  arrivals_first = ap (λ (t : ℕ). t ∷ []) (sym (arrival_first g (nth running) (nth departure)))
+  arrivals_first i own e w = rw e (ap (λ (t : ℕ). t ∷ []) ((rw e at w) ∙ sym (arrival_first g (nth running) (nth departure))))
 
-  -- the arrival of the train at place j, where l has those of the trains ahead
-  module _ (l : List ℕ) (j : ℕ) (ahead : take j l ≡ row arrives j) (some : 1 ≤ j) where
-    pub ahead_is : at l (j - 1) ≡ arrives j
-    ahead_is =
-        let u : suc (j - 1) ≡ j = omega arith in
-        sym (get_or-take j l (j - 1) 0 (omega arith))
-        ∙ ap (λ (x : List ℕ). at x (j - 1)) ahead
-        ∙ table_at (λ m. arrives (suc m)) 0 j (j - 1) (omega arith)
-        ∙ ap arrives u
+  -- the arrivals of trains 1 to i, where l has those of the trains ahead of train i
+  module _ (l : List ℕ) where
+    pub ahead_is : (j : ℕ) → take j l ≡ row arrives j → ¬ (j ≡ 0) → at l (j - 1) ≡ arrives j
+    ahead_is zero e h = absurd (h refl)
+    ahead_is (suc j) e h =
+        let u : suc j - 1 ≡ j = omega arith in
+        rw u (sym (get_or-take (suc j) l j 0 (omega arith)) ∙ ap (λ (x : List ℕ). at x j) e ∙ table_at (λ m. arrives (suc m)) 0 (suc j) j (omega arith))
 
-    pub arrivals_more : j < length l → take (j + 1) (set l j (max (at l (j - 1) + g) (at departure j + at running j))) ≡ row arrives (j + 1)
-    arrivals_more few = rw add-one (row_store arrives l j _ ahead few behind)
+    pub arrivals_more : (i v : ℕ) → ¬ (i ≡ 0) → i ≤ length l → take (i - 1) l ≡ row arrives (i - 1) → v ≡ arrives i → take i (set l (i - 1) v) ≡ row arrives i
+    arrivals_more zero v some few e w = absurd (some refl)
+    arrivals_more (suc j) v some few e w =
+        let u : suc j - 1 ≡ j = omega arith in rw u (row_store arrives l j v (rw u at e) few w)
+
+    -- train i runs behind the one ahead
+    pub arrives_behind : (i own : ℕ) → 2 ≤ i → own ≡ nth departure i + nth running i → take (i - 1) l ≡ row arrives (i - 1)
+        → max (at l (i - 1 - 1) + g) own ≡ arrives i
+    arrives_behind zero own some e h = absurd (omega arith)
+    arrives_behind (suc j) own some e h =
+        let u : suc j - 1 ≡ j = omega arith in
+        let last : at l (suc j - 1 - 1) ≡ arrives j = rw u (ahead_is j (rw u at h) (λ z. omega arith)) in
+        rw (last, e) (swap (arrives j + g) _ ∙ arrival_is_behind g (nth running) (nth departure) j (λ z. omega arith))
       where
         swap : (a b : ℕ) → max a b ≡ max b a
         swap a b = omega arith
-
-        behind : max (at l (j - 1) + g) (at departure j + at running j) ≡ arrives (suc j)
-        behind =
-            rw (ahead_is, ← nth_at departure j, ← nth_at running j)
-            (swap (arrives j + g) _ ∙ arrival_is_behind g (nth running) (nth departure) j (λ z. omega arith))
 
 -- ---- the timing, whole
 

@@ -12,7 +12,7 @@ ghost use Rattle.rounds.specs.Rounds.{times as times_of};
 ghost use Rattle.columns.specs.Columns.{UpTo, Loaded};
 ghost use Rattle.timing.specs.Timed.{OnTrains, never, departed_in, timed_in, times_since};
 
-use columns::none_above;
+use columns::{none_above, of_train};
 use model::limits::{MOST_ORDERS, MOST_TRAINS};
 use model::{Form, Sheet};
 
@@ -78,16 +78,35 @@ fn find_departures(sheet: Sheet, released: [u32; MOST_TRAINS]) -> Option<Leaving
     (i == sheet.train_count).then_some(Leaving { departure, window })
 }
 
-// The arrivals that follow from the departures in the window form: each train runs a gap or more behind the one ahead.
+// The arrivals of trains 1 to i, each found from the arrival of the train ahead, back to the first train.
+fn arrivals_to(
+    gap: u32,
+    running: &[u32; MOST_TRAINS],
+    departure: &[u32; MOST_TRAINS],
+    i: u8,
+) -> [u32; MOST_TRAINS]
+    requires le_i { (1 ≤ i) × (i ≤ train_counts.most) × (gap ≤ gap_range.most) }
+    requires up_to { UpTo running_range.most i running.now × UpTo never i departure.now }
+    ensures { take i result ≡ row (arrival_behind gap (nth running.now) (nth departure.now)) i }
+{
+    let own = of_train(departure, i) + of_train(running, i);
+    if i == 1 {
+        [own; MOST_TRAINS]
+    } else {
+        let mut arrival = arrivals_to(gap, running, departure, i - 1);
+        let j = (i - 1) as usize;
+        arrival[j] = (arrival[j - 1] + gap).max(own);
+        arrival
+    }
+}
+
+// The arrivals that follow from the departures in the window form.
 fn find_arrivals(sheet: Sheet, departure: [u32; MOST_TRAINS]) -> [u32; MOST_TRAINS]
     requires { Admitted (sheet_of sheet) × (sheet.form ≡ Form.Windows) × UpTo never sheet.train_count departure }
     ensures { take sheet.train_count result ≡ row (arrival_behind sheet.gap (nth sheet.running) (nth departure)) sheet.train_count }
 {
-    let mut arrival = [departure[0] + sheet.running[0]; MOST_TRAINS];
-    for j in 1..sheet.train_count {
-        arrival[j] = (arrival[j - 1] + sheet.gap).max(departure[j] + sheet.running[j]);
-    }
-    arrival
+    let running = sheet.running;
+    arrivals_to(sheet.gap, &running, &departure, sheet.train_count as u8)
 }
 
 // The arrivals that follow from these departures, by the sheet's form.
