@@ -71,7 +71,7 @@ pub fn number_fields(
     let mut values = [0; 3];
     let mut end = name.start + name.length;
     for value in &mut values[..count] {
-        // The paper names this form for a field that is not a number.
+        // A let else and no `?`: the scope of the project names this form for a field that is no number (docs/DECISIONS.md, "Named forms").
         let Some(field) = number_field(text, end) else {
             return Err(malformed);
         };

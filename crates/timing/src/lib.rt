@@ -79,6 +79,7 @@ fn find_departures(sheet: Sheet, released: [u32; MOST_TRAINS]) -> Option<Leaving
 }
 
 // The arrivals of trains 1 to i, each found from the arrival of the train ahead, back to the first train.
+// A recursion and no loop: the scope of the project names this form for the arrivals (docs/DECISIONS.md, "Named forms").
 fn arrivals_to(
     gap: u32,
     running: &[u32; MOST_TRAINS],
