@@ -10,21 +10,21 @@ use Rattle.numbers.specs.Counting.{at, count}
 use Rattle.numbers.specs.DecidesLaws.{Decides, decides_eq, test_true, test_false}
 use Rattle.numbers.specs.CountingLaws.{count_start, count_yes, count_no}
 use Rattle.rounds.specs.Riding.{on}
-use Rattle.riders.specs.Standing.{standing, beyond, least_of, least, Lowest}
+use Rattle.riders.specs.Standing.{standing, beyond, picked, least_of, least, Lowest}
 use Rattle.riders.specs.Riders.{Counted}
 use Rattle.riders.proofs.CountedLaws.{AtSet, here, elsewhere, at_set}
 
 module _ (test : ℕ → Bool) (value : ℕ → ℕ) where
   least_start : beyond ≡ least_of test value 0
-  unfolding least_of
+  unfolding picked
   least_start = refl
 
   least_more : (j : ℕ) → least_of test value (j + 1) ≡ min (least_of test value j) (cond (test j) (value j) beyond)
-  unfolding least_of
+  unfolding picked
   least_more j = rw add-one
 
   least_most : (j : ℕ) → least_of test value j ≤ beyond
-  unfolding least_of
+  unfolding picked
   least_most zero = omega arith
   least_most (suc j) = omega (arith, least_most j)
 

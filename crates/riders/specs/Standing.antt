@@ -16,15 +16,18 @@ place own = own % 256 - 1
 abbrev pub beyond : ℕ
 beyond = 4294967295
 
+-- what an operation picks of the values of the first m that pass a test; `none` where none does
+unfoldable pub picked : (pick : ℕ → ℕ → ℕ) (none : ℕ) (test : ℕ → Bool) (value : ℕ → ℕ) → ℕ → ℕ
+picked pick none test value zero = none
+picked pick none test value (suc m) = pick (picked pick none test value m) (cond (test m) (value m) none)
+
 -- the greatest value of the first m that pass a test; 0 where none does
-unfoldable pub greatest_of : (test : ℕ → Bool) (value : ℕ → ℕ) → ℕ → ℕ
-greatest_of test value zero = 0
-greatest_of test value (suc m) = max (greatest_of test value m) (cond (test m) (value m) 0)
+abbrev pub greatest_of : (test : ℕ → Bool) (value : ℕ → ℕ) → ℕ → ℕ
+greatest_of = picked max 0
 
 -- the least value of the first m that pass a test; `beyond` where none does
-unfoldable pub least_of : (test : ℕ → Bool) (value : ℕ → ℕ) → ℕ → ℕ
-least_of test value zero = beyond
-least_of test value (suc m) = min (least_of test value m) (cond (test m) (value m) beyond)
+abbrev pub least_of : (test : ℕ → Bool) (value : ℕ → ℕ) → ℕ → ℕ
+least_of = picked min beyond
 
 -- whether order j rides an earlier train than i, or none, and its latest train lets it ride i
 abbrev pub could : (latest train : List ℕ) → ℕ → ℕ → Bool

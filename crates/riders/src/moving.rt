@@ -49,7 +49,7 @@ pub fn leave_late(
 }
 
 // The last train that one of n orders without a train may ride; 0 where there is none.
-#[tactic(auto, unfolding(crate::specs::Standing::greatest_of))]
+#[tactic(auto, unfolding(crate::specs::Standing::picked))]
 pub fn last_waited_for(n: usize, latest: &[u8; MOST_ORDERS], train: &[u8; MOST_ORDERS]) -> u8
     requires { n ≤ order_counts.most }
     ensures { result ≡ waited latest.now train.now n }

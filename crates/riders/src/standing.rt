@@ -24,7 +24,7 @@ pub fn standing_of(release: &[u32; MOST_ORDERS], j: usize) -> u32
 }
 
 // The greatest standing among n orders that could come to train i; 0 where none could.
-#[tactic(auto, unfolding(crate::specs::Standing::greatest_of))]
+#[tactic(auto, unfolding(crate::specs::Standing::picked))]
 pub fn greatest_outside(
     n: usize,
     i: u8,
@@ -45,7 +45,7 @@ pub fn greatest_outside(
 }
 
 // The least standing among n orders that ride train i; BEYOND where none does.
-#[tactic(auto, unfolding(crate::specs::Standing::least_of))]
+#[tactic(auto, unfolding(crate::specs::Standing::picked))]
 pub fn least_on(n: usize, i: u8, release: &[u32; MOST_ORDERS], train: &[u8; MOST_ORDERS]) -> u32
     requires { (n ≤ order_counts.most) × UpTo last_instant n release.now }
     ensures { result ≡ least (at release.now) train.now i n }
