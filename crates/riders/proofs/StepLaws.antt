@@ -14,6 +14,12 @@ use Rattle.riders.specs.Standing.{standing, beyond, picked, least_of, least, Low
 use Rattle.riders.specs.Riders.{Counted}
 use Rattle.riders.proofs.CountedLaws.{AtSet, here, elsewhere, at_set}
 
+-- where the next one is looked at, who passes or does not
+pub picked_next : (pick : ℕ → ℕ → ℕ) (none : ℕ) (test : ℕ → Bool) (value : ℕ → ℕ) (j so_far own v : ℕ) (passes : Bool) → passes ≡ test j
+    → so_far ≡ picked pick none test value j → own ≡ cond passes (value j) none → v ≡ pick so_far own → v ≡ picked pick none test value (j + 1)
+unfolding picked
+picked_next pick none test value j so_far own v passes e a b c = rw (e, a) at (rw b at c) ∙ rw add-one
+
 module _ (test : ℕ → Bool) (value : ℕ → ℕ) where
   least_start : beyond ≡ least_of test value 0
   unfolding picked

@@ -1,10 +1,10 @@
 // Orders by (release, number), which an order's standing joins in one number.
-ghost use Rattle.std.specs.Prelude.{◌≡◌, ◌<◌, ◌≤◌, length};
+ghost use Rattle.std.specs.Prelude.{ℕ, Bool, ◌≡◌, ◌<◌, ◌≤◌, length};
 ghost use Rattle.numbers.specs.Counting.{at};
 ghost use Rattle.model.specs.Limits.{order_counts, train_counts, last_instant};
 ghost use Rattle.columns.specs.Columns.{UpTo};
 ghost use Rattle.riders.specs.Riders.{Counted};
-ghost use Rattle.riders.specs.Standing.{standing, best, least, Lowest};
+ghost use Rattle.riders.specs.Standing.{standing, picked, best, least, Lowest};
 
 use crate::moving::TRAINS_AND_NONE;
 use model::limits::MOST_ORDERS;
@@ -23,8 +23,30 @@ pub fn standing_of(release: &[u32; MOST_ORDERS], j: usize) -> u32
     NUMBERS * release[j] + ((j as u32) + 1)
 }
 
+// What is picked of the standings of those of n orders that pass a test; `none` where none does. The loop has no branch, so the compiler takes many orders at
+// once.
+fn picked<T: Fn(usize) -> bool, P: Fn(u32, u32) -> u32>(
+    n: usize,
+    release: &[u32; MOST_ORDERS],
+    passes: T,
+    none: u32,
+    pick: P,
+) -> u32
+    requires n_le_most { (n ≤ order_counts.most) × UpTo last_instant n release.now }
+    requires may_test { (j : ℕ) → j < n → T.pre passes j }
+    requires may_pick { P.IsAlwaysCallable pick }
+    ensures { (test : ℕ → Bool) (op : ℕ → ℕ → ℕ) → ((j : ℕ) (b : Bool) → T.post passes j b → b ≡ test j)
+        → ((a b v : ℕ) → P.post pick a b v → v ≡ op a b) → result ≡ picked op none test (standing (at release.now)) n }
+{
+    let mut so_far = none;
+    for j in 0..n {
+        let own = standing_of(release, j);
+        so_far = pick(so_far, if passes(j) { own } else { none });
+    }
+    so_far
+}
+
 // The greatest standing among n orders that could come to train i; 0 where none could.
-#[tactic(auto, unfolding(crate::specs::Standing::picked))]
 pub fn greatest_outside(
     n: usize,
     i: u8,
@@ -35,27 +57,21 @@ pub fn greatest_outside(
     requires { (n ≤ order_counts.most) × UpTo last_instant n release.now }
     ensures { result ≡ best (at release.now) latest.now train.now i n }
 {
-    let mut best = 0;
-    for j in 0..n {
-        let own = standing_of(release, j);
-        let could = (train[j] < i) & (i <= latest[j]);
-        best = best.max(if could { own } else { 0 });
-    }
-    best
+    picked(
+        n,
+        release,
+        |j| (train[j] < i) & (i <= latest[j]),
+        0,
+        u32::max,
+    )
 }
 
 // The least standing among n orders that ride train i; BEYOND where none does.
-#[tactic(auto, unfolding(crate::specs::Standing::picked))]
 pub fn least_on(n: usize, i: u8, release: &[u32; MOST_ORDERS], train: &[u8; MOST_ORDERS]) -> u32
     requires { (n ≤ order_counts.most) × UpTo last_instant n release.now }
     ensures { result ≡ least (at release.now) train.now i n }
 {
-    let mut least = BEYOND;
-    for j in 0..n {
-        let own = standing_of(release, j);
-        least = least.min(if train[j] == i { own } else { BEYOND });
-    }
-    least
+    picked(n, release, |j| train[j] == i, BEYOND, u32::min)
 }
 
 // The riders of each train, and of none at place 0: how many they are, and the least standing among them.
