@@ -28,7 +28,7 @@ pub fn all_apart<'a>(a: &'a [u32], b: &'a [u32], count: usize, ahead: usize, by:
 {
     let mut all = true;
     for k in ahead..count {
-        all = (a[k - ahead] as u64 + by <= b[k] as u64) & all;
+        all = (u64::from(a[k - ahead]) + by <= u64::from(b[k])) & all;
     }
     all
 }

@@ -12,7 +12,7 @@ pub fn of_train(column: &[u32; MOST_TRAINS], i: u8) -> u32
     requires { (1 ≤ i) × (i ≤ train_counts.most) }
     ensures { result ≡ nth column.now i }
 {
-    column[(i - 1) as usize]
+    column[usize::from(i - 1)]
 }
 
 // The element of the last of q trains.

@@ -14,7 +14,7 @@ pub fn lateness_on(weight: u32, due: u32, arrival: &[u32; MOST_TRAINS], i: u8) -
     requires le_i { (1 ≤ i) × (i ≤ train_counts.most) × (nth arrival.now i ≤ last_arrival) }
     ensures { result ≡ lateness weight (nth arrival.now i) due }
 {
-    (weight as i64) * ((of_train(arrival, i) as i64) - (due as i64))
+    i64::from(weight) * (i64::from(of_train(arrival, i)) - i64::from(due))
 }
 
 // The greatest weighted lateness of n orders on these trains; it starts below every lateness.

@@ -56,7 +56,7 @@ fn crowded_at(latest: &[u8; MOST_ORDERS], n: usize, i: usize, places: u32) -> bo
     for &last in &latest[..n] {
         orders += (last <= train) as u8;
     }
-    places < (orders as u32)
+    places < u32::from(orders)
 }
 
 // Whether for some i from 0 to q more than K_i of n orders have a latest train ≤ i. At i = q there is room for all.

@@ -46,7 +46,7 @@ fn are_spaced(gap: u32, q: usize, departure: [u32; MOST_TRAINS]) -> bool
 {
     let mut spaced = true;
     for i in 1..q {
-        spaced = ((departure[i - 1] as u64) + (gap as u64) <= (departure[i] as u64)) & spaced;
+        spaced = (u64::from(departure[i - 1]) + u64::from(gap) <= u64::from(departure[i])) & spaced;
     }
     spaced
 }

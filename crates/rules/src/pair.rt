@@ -8,8 +8,8 @@ ghost use Rattle.rules.specs.Rules.{pair_told};
 
 use columns::last_of;
 use lowering::lateness::worst_of;
-use model::{PlanPair, Sheet};
 use model::limits::{MOST_ORDERS, MOST_TRAINS};
+use model::{PlanPair, Sheet};
 
 // The last arrival, by the model's rule, and the greatest weighted lateness of a schedule in columns.
 pub fn pair_of(sheet: Sheet, train: [u8; MOST_ORDERS], departure: [u32; MOST_TRAINS]) -> PlanPair

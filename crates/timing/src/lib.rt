@@ -43,7 +43,7 @@ fn releases(
 {
     let mut released = since;
     for j in 0..n {
-        let m = (train[j] - 1) as usize;
+        let m = usize::from(train[j] - 1);
         released[m] = release[j].max(released[m]);
     }
     released

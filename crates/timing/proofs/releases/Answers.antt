@@ -14,5 +14,6 @@ loop-j-preserved c =
     let t = at a.train l.j in
     let on = c.requires.1 l.j (omega arith) in
     let here : at (take a.n a.train) l.j ≡ t = get_or-take a.n a.train l.j 0 (omega arith) in
-    ap (set l.released (t - 1)) c.max.ensures
-    ∙ releases_more (nth a.since) (at a.release) (take a.n a.train) 32 l.j t l.released l.invariant here on.0 on.1
+    rw c.from-m.ensures
+    (ap (set l.released (t - 1)) (rw c.from-m.ensures at c.max.ensures)
+    ∙ releases_more (nth a.since) (at a.release) (take a.n a.train) 32 l.j t l.released l.invariant here on.0 on.1)

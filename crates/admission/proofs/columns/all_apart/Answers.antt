@@ -13,7 +13,7 @@ loop-k-preserved c =
     let ahead = c.args.ahead in
     let more : l.k + 1 - ahead ≡ l.k - ahead + 1 = omega arith in
     let place : l.k - ahead + ahead ≡ l.k = omega arith in
-    (omega arith, rw (more, every_more, ← l.invariant.1, place))
+    (omega arith, rw (more, every_more, ← l.invariant.1, place, c.from-in-loop-k.ensures, c.from.ensures))
 
 pub returns : goal.returns
 returns c =

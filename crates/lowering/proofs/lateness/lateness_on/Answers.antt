@@ -41,5 +41,6 @@ returns c =
     let a = c.args in
     let p = c.requires in
     let f = c.of_train.result in
-    whole a.weight f a.due (p.weight_le_most.0, omega (arith, c.of_train.ensures, p.le_i.2), p.weight_le_most.1)
-    ∙ ap (λ (v : ℕ). lateness a.weight v a.due) c.of_train.ensures
+    rw (c.from.ensures, c.from-2.ensures, c.from-3.ensures)
+    (whole a.weight f a.due (p.weight_le_most.0, omega (arith, c.of_train.ensures, p.le_i.2), p.weight_le_most.1)
+    ∙ ap (λ (v : ℕ). lateness a.weight v a.due) c.of_train.ensures)
