@@ -1,10 +1,10 @@
 -- A line that is read ends after it starts, and an order's name lies in the text; one that is not is refused with its number. Assumes nothing.
 use Rattle.std.proofs.Math.Path.{◌≡◌}
-use Rattle.std.specs.Prelude.{refl, ◌||◌, List, Option, Some, None, Result, Ok, Err, ◌⊎◌, length, drop, set, replicate, eqb}
+use Rattle.std.specs.Prelude.{refl, ◌||◌, List, Option, Some, None, Result, Ok, Err, ◌⊎◌, length, drop, set, replicate}
 use Rattle.std.proofs.Common.{◌++◌, subst, inl, inr}
 use Rattle.std.proofs.lemmas.List.{set-append_left}
 use Rattle.std.proofs.lemmas.Bool.Decides.{nat_tests}
-use Rattle.std.proofs.Math.Bool.{true, false}
+use Rattle.std.proofs.Math.Bool.{false}
 use Prim.Native.Nat.{ℕ, zero, suc, ◌+◌, ◌≤◌, ◌<◌}
 use native.Mathlib.Omega.{arith}
 use Rattle.numbers.specs.Counting.{at}
@@ -14,7 +14,7 @@ use Rattle.model.specs.declared.Refusal.TheVariants.{Malformed}
 use Rattle.fields.specs.Fields.{comma, run_of}
 use Rattle.fields.specs.Numbers.{is_number, number_at, number_field}
 use Rattle.fields.specs.Names.{name_field, NameAt}
-use Rattle.lines.specs.Lines.{number, name, line_ends, is, number_count, record_of, numbers_from, number_fields, line_at}
+use Rattle.lines.specs.Lines.{number, name, counted, line_ends, is, number_count, record_of, numbers_from, number_fields, line_at}
 use Rattle.fields.proofs.FieldLaws.{by_test, run_inside, inside_means}
 use Rattle.fields.specs.declared.Alphabet.TheVariants.{Digits, NameBytes}
 use Rattle.fields.specs.declared.NumberAt.{NumberAt}
@@ -69,12 +69,19 @@ Sound text p line (Ok l) = (p < l.next) × Named text l.line
 Sound text p line (Err r) = r ≡ Malformed line
 
 -- no line has more than three numbers
-pub few_numbers : (letter : ℕ) → number_count letter ≤ 3
+abbrev Few : Option ℕ → Type 0
+Few (Some n) = n ≤ 3
+Few None = Unit {0}
+
+few_counted : (letter : ℕ) → Few (number_count letter)
 unfolding number_count
-few_numbers letter =
-    by_test (λ n. n ≤ 3) (is letter "G") (λ e. omega arith) (λ e.
-    by_test (λ n. n ≤ 3) (is letter "W" || is letter "T") (λ e. omega arith) (λ e.
-    by_test (λ n. n ≤ 3) (is letter "X" || is letter "O") (λ e. omega arith) (λ e. omega arith)))
+few_counted letter =
+    by_test Few (is letter "G") (λ e. omega arith) (λ e.
+    by_test Few (is letter "W" || is letter "T") (λ e. omega arith) (λ e.
+    by_test Few (is letter "X" || is letter "O") (λ e. omega arith) (λ e. tt)))
+
+pub few_numbers : (letter n : ℕ) → number_count letter ≡ Some n → n ≤ 3
+few_numbers letter n e = subst Few e (few_counted letter)
 
 -- whether a letter has numbers, and how many at most
 pub ruleset count_laws = (nat_tests, few_numbers)
@@ -105,29 +112,31 @@ module _ (text : List ℕ) (p line : ℕ) where
       go None h more = refl
 
   -- the record of a letter that some kind has: an order's name lies in the text, and no other record has a name
-  record_named : (letter start long : ℕ) (values : List ℕ) → NameAt text start long ⊎ (is letter "O" ≡ false)
-      → eqb (number_count letter) 0 ≡ false → Named text (record_of letter start long values)
+  record_named : (letter start long n : ℕ) (values : List ℕ) → NameAt text start long ⊎ (is letter "O" ≡ false)
+      → number_count letter ≡ Some n → Named text (record_of letter start long values)
   unfolding record_of number_count
-  record_named letter start long values named some =
+  record_named letter start long n values named some =
       by_test (Named text) (is letter "G") (λ e. tt) (λ g.
       by_test (Named text) (is letter "W") (λ e. tt) (λ w.
       by_test (Named text) (is letter "T") (λ e. tt) (λ t.
       by_test (Named text) (is letter "X") (λ e. tt) (λ x. go (λ o. rw (g, w, t, x, o) at some) named))))
     where
-      go : (is letter "O" ≡ false → true ≡ false) → NameAt text start long ⊎ (is letter "O" ≡ false) → NameAt text start long
+      go : (is letter "O" ≡ false → None ≡ Some n) → NameAt text start long ⊎ (is letter "O" ≡ false) → NameAt text start long
       go f (inl h) = h
-      go f (inr o) =
-          let none : true ≡ false = f o in
-          let z : ◌≡◌ {A = ℕ} 0 1 = cc in
-          absurd (omega arith)
+      go f (inr o) = let none : None ≡ Some n = f o in absurd cc
 
   fields_sound : (letter start long : ℕ) → p ≤ start + long → NameAt text start long ⊎ (is letter "O" ≡ false)
       → Sound text p line (number_fields text line letter start long)
   unfolding number_fields
-  fields_sound letter start long l named =
-      by_test (Sound text p line) (eqb (number_count letter) 0) (λ e. refl) (λ some.
-      numbers_sound (record_of letter start long) (λ values. record_named letter start long values named some)
-      (number_count letter) 0 (start + long) l (replicate 3 0))
+  fields_sound letter start long l named = go (number_count letter) refl
+    where
+      rest : ℕ → Result LineAt Refusal
+      rest count = numbers_from text line (record_of letter start long) count 0 (start + long) (replicate 3 0)
+
+      go : (x : Option ℕ) → number_count letter ≡ x → Sound text p line (counted x (Err (Malformed line)) rest)
+      go (Some n) some =
+          numbers_sound (record_of letter start long) (λ values. record_named letter start long n values named some) n 0 (start + long) l (replicate 3 0)
+      go None none = refl
 
 -- A LINE THAT IS READ ENDS AFTER IT STARTS, AND AN ORDER'S NAME LIES IN THE TEXT
 pub line_sound : (text : List ℕ) (p line : ℕ) → Sound text p line (line_at text p line)

@@ -23,6 +23,10 @@ abbrev pub name : {A : Type 0} → Option NamePlace → (refused : A) → (ℕ �
 name (Some n) refused rest = rest n.start n.length
 name None refused rest = refused
 
+abbrev pub counted : {A : Type 0} → Option ℕ → (refused : A) → (ℕ → A) → A
+counted (Some n) refused rest = rest n
+counted None refused rest = refused
+
 -- a line ends here
 abbrev pub line_ends : List ℕ → ℕ → Bool
 line_ends text p = eqb (at text p) 10
@@ -31,9 +35,10 @@ line_ends text p = eqb (at text p) 10
 abbrev pub is : ℕ → Char → Bool
 is byte letter = eqb byte (code letter)
 
--- how many numbers a line with this letter has; 0 if no kind of line has it
-unfoldable pub number_count : ℕ → ℕ
-number_count letter = cond (is letter "G") 1 (cond (is letter "W" || is letter "T") 2 (cond (is letter "X" || is letter "O") 3 0))
+-- how many numbers a line with this letter has; none if no kind of line has it
+unfoldable pub number_count : ℕ → Option ℕ
+number_count letter =
+    cond (is letter "G") (Some 1) (cond (is letter "W" || is letter "T") (Some 2) (cond (is letter "X" || is letter "O") (Some 3) None))
 
 -- the record of a line with this letter, its numbers as they stand; an order's name starts at `start` and has `long` bytes
 unfoldable pub record_of : (letter start long : ℕ) → List ℕ → Line
@@ -53,8 +58,8 @@ numbers_from text line made (suc left) n p values =
 -- the line with this letter whose number fields stand behind this name; only an order's name has bytes
 unfoldable pub number_fields : List ℕ → (line letter start long : ℕ) → Result LineAt Refusal
 number_fields text line letter start long =
-    cond (eqb (number_count letter) 0) (Err (Malformed line))
-    (numbers_from text line (record_of letter start long) (number_count letter) 0 (start + long) (replicate 3 0))
+    counted (number_count letter) (Err (Malformed line))
+    (λ count. numbers_from text line (record_of letter start long) count 0 (start + long) (replicate 3 0))
 
 -- line number `line`, which starts at position p: its letter, an order's name, its numbers, and its end
 unfoldable pub line_at : List ℕ → (p line : ℕ) → Result LineAt Refusal

@@ -8,16 +8,16 @@ use fields::bytes::byte_at;
 use fields::number::number_field;
 use model::Refusal;
 
-// How many numbers a line with this letter has; 0 if no kind of line has it.
+// How many numbers a line with this letter has; none if no kind of line has it.
 #[tactic(auto, using(std::proofs::lemmas::Bool::Decides::nat_tests), unfolding(crate::specs::Lines::number_count))]
-fn number_count(letter: u8) -> usize
+fn number_count(letter: u8) -> Option<usize>
     ensures { result ≡ number_count letter }
 {
     match letter {
-        b'G' => 1,
-        b'W' | b'T' => 2,
-        b'X' | b'O' => 3,
-        _ => 0,
+        b'G' => Some(1),
+        b'W' | b'T' => Some(2),
+        b'X' | b'O' => Some(3),
+        _ => None,
     }
 }
 
@@ -64,10 +64,7 @@ pub fn number_fields(
     ensures { result ≡ number_fields text.now line letter name.start name.length }
 {
     let malformed = Refusal::Malformed(line);
-    let count = number_count(letter);
-    if count == 0 {
-        return Err(malformed);
-    }
+    let count = number_count(letter).ok_or(malformed)?;
     let mut values = [0; 3];
     let mut end = name.start + name.length;
     for value in &mut values[..count] {

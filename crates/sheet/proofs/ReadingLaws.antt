@@ -86,7 +86,8 @@ module _ (form : Form) where
         (with_line s l))
         → on_line x (λ l next. on_admission (line_fault form line s l) (read_lines form (suc n) text next (line + 1) (with_line s l)))
         ≡ on_line x (λ l next. on_admission (line_fault form line s l) (read_lines form n text next (line + 1) (with_line s l)))
-    same_turn n p line s (Ok l) e k = ap (on_admission (line_fault form line s l.line)) (k l.line l.next (subst (Sound text p line) e (line_sound text p line)).0)
+    same_turn n p line s (Ok l) e k =
+        ap (on_admission (line_fault form line s l.line)) (k l.line l.next (subst (Sound text p line) e (line_sound text p line)).0)
     same_turn n p line s (Err r) e k = refl
 
     pub one_more_bound : (n p line : ℕ) (s : SheetLines) → length text ≤ p + n → read_lines form (suc n) text p line s ≡ read_lines form n text p line s
