@@ -2,7 +2,8 @@
 // list's length beforehand, in `checking` checking a plan, in `watching` a search by single calls, and in
 // `replanning`, for the window form, listing and choosing behind trains that have gone. Not exported are a name as a part of the text, the tests
 // of a sheet alone, and printing. The calls take and return numbers, slices (in C a pointer, then a length) and structs laid out as in C, those of `exported`
-// among them, and ask nothing of their caller. include/joshkamber.h declares them.
+// among them, and ask nothing of their caller. Each form has calls of its own, since C tells calls by their names and structs by their types.
+// include/joshkamber.h declares them.
 #![tactic(auto)]
 
 pub mod bounding;

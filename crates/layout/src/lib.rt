@@ -12,6 +12,7 @@ use model::Refusal;
 use model::limits::{NUMBERS_A_PAIR, NUMBERS_A_TRAIN};
 use writing::Page;
 
+// Each kind of line has fields of its own, so each has its function.
 fn pair_line(page: &mut Page<'_>, last: i64, worst: i64)
     ensures { Puts (pair_line last worst) page.old page.new }
 {

@@ -75,6 +75,7 @@ fn settle_train(
     ensures counts { Counted n train.new riders.new }
 {
     let places = of_train(capacity, i) as u8;
+    // a while: the turns end when nothing moves
     while (riders[i as usize] < places) | ((riders[0] > 0) & (i <= top)) {
         if !take_turn(n, i, places, release, latest, train, riders) {
             break;

@@ -13,7 +13,7 @@ use model::limits::{MOST_ORDERS, MOST_TRAINS};
 use riders::moving::TRAINS_AND_NONE;
 use riders::standing::{Riders, standing_of, survey};
 
-// Whether none of the first n trains of a column is above q.
+// Whether none of the first n trains of a column is above q. (`none_above` of `columns` compares two columns, and of trains.)
 pub fn none_above(n: usize, column: &[u8; MOST_ORDERS], q: usize) -> bool
     requires { (n ≤ order_counts.most) × (q ≤ train_counts.most) }
     ensures { Decides (UpTo q n column.now) result }
@@ -27,7 +27,7 @@ pub fn none_above(n: usize, column: &[u8; MOST_ORDERS], q: usize) -> bool
     kept
 }
 
-// Whether none of q trains has more orders than places.
+// Whether none of q trains has more orders than places. (`have_room` of `rules` counts the orders; here the counts stand in a column.)
 fn have_room(q: usize, capacity: &[u32; MOST_TRAINS], riders: [u8; TRAINS_AND_NONE]) -> bool
     requires { q ≤ train_counts.most }
     ensures { Decides (Room q (nth capacity.now) riders) result }
@@ -66,6 +66,7 @@ fn next_lower(i: u8, q: u8, bars: &[u32; TRAINS_AND_NONE], next: &[u8; TRAINS_AN
 {
     let own = bars[i as usize];
     let mut m = i + 1;
+    // a while, since it jumps
     while m <= q && own <= bars[m as usize] {
         m = next[m as usize];
     }
@@ -98,6 +99,7 @@ fn is_under(
     ensures { Decides (Under own from to bars.now) result }
 {
     let mut i = from + 1;
+    // a while, since it jumps
     while i <= to {
         if bars[i as usize] <= own {
             return false;

@@ -17,6 +17,7 @@ pub fn read_text<R: Read>(reader: &mut R, text: &mut [u8]) -> io::Result<usize>
     ensures end { IfOk result (λ n. n < length text.new → IsAtEnd (R.remaining reader.new)) }
 {
     let mut done = 0;
+    // a while: the input says when it ends
     while done < text.len() {
         let count = reader.read(&mut text[done..])?;
         if count == 0 {

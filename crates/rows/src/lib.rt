@@ -8,7 +8,8 @@ pub mod window_lines;
 
 use model::limits::{MOST_ORDERS, MOST_TRAINS, MOST_WINDOWS};
 
-// The tests of a line after those above it, each true where it passes: 3, 4, 2 and 6 of document 01's table.
+// The tests of a line after those above it, each true where it passes: 3, 4, 2 and 6 of document 01's table. Four answers, and no
+// flag beside a value: `first_fault` goes through them in the table's order.
 #[derive(Clone, Copy)]
 pub struct LineTests {
     pub late_enough: bool,

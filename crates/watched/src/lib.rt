@@ -17,7 +17,7 @@ pub struct Start {
 }
 
 // What a round call gives: the next state, and whether the search has ended; then how many pairs are listed and how many rounds were made, or the cause beside
-// 0 and 0.
+// 0 and 0. C has no Option, so the end is a flag.
 #[repr(C)]
 #[derive(Clone, Copy)]
 pub struct Round {

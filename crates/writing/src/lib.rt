@@ -4,7 +4,8 @@
 ghost use Rattle.std.specs.Prelude.{◌≡◌, [], ◌∷◌, true, false};
 ghost use Rattle.writing.specs.Decimal.{decimal, signed, field};
 
-// A lent buffer, and the place in it where the next byte goes; there is none once a byte did not fit. Where `writing` is false, bytes are only counted.
+// A lent buffer, and the place in it where the next byte goes; there is none once a byte did not fit. Where `writing` is false, bytes are only counted: the
+// flag says which of two passes this is, and both know the place.
 #[derive(Drop)]
 pub struct Page<'a> {
     pub out: &'a mut [u8],
