@@ -50,13 +50,13 @@ def report(point, what, places):
 
 shaped = [f'{t.where} {t.name}' for t in types if t.kind == 'enum' and len(t.parts) == 2 and any(p[1] for p in t.parts)]
 report('1a', 'enums of two variants of which one holds a value', shaped)
-flags = [f'{t.where} {t.name}.{n}' for t in types if t.kind == 'struct'
-         for n, rest in t.parts if re.match(r': (bool|Admission|Result<\(\), Refusal>)$', rest) or (n, rest) == ('ended', ': u8')]
+# structs of flags alone hold no value beside them, and `listed` is an answer about a pair that is there either way
+flags = [f'{t.where} {t.name}.{n}' for t in types if t.kind == 'struct' and any(': bool' not in rest for _, rest in t.parts)
+         for n, rest in t.parts if n != 'listed' and re.match(r': (bool|Admission|Result<\(\), Refusal>)$', rest) or (n, rest) == ('ended', ': u8')]
 report('1b', 'a flag, or whether it is refused, beside a value', flags)
 kinds = [f'{f.where} {f.name}' for f in functions if re.match(r'kind_of|refusal_number|refusal_returned|number$|returned$', f.name) and '->' in f.head
          and re.search(r'-> u(size|32|8)', f.head)]
 kinds += [f'{t.where} {t.name}.{n}' for t in types for n, rest in t.parts if n in ('above', 'gap_count') and re.match(r': u', rest)]
-kinds += [f'{w} {x.strip()}' for w, x in lines if re.match(r'(pub )?const (BESIDE|NEXT)\b', x)]
 report('1c', 'a number for a kind or a refusal', kinds)
 
 # ---- 2
