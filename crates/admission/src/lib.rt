@@ -4,11 +4,13 @@
 mod columns;
 mod tests;
 
-ghost use Rattle.std.specs.Prelude.{◌≡◌};
+ghost use Rattle.std.specs.Prelude.{◌≡◌, IfOk};
 ghost use Rattle.model.specs.Memory.{sheet_of};
 ghost use Rattle.model.specs.Admission.{admission};
+ghost use Rattle.model.specs.Refusal.{of_reply};
 ghost use Rattle.admission.specs.FirstRefusal.{first_refusal};
 
+use model::admitted::AdmittedSheet;
 use model::{Refusal, Sheet};
 
 // The answer to a sheet that passes test 4: the first of the tests 5, 2, 6 and 7 that fails decides.
@@ -32,8 +34,9 @@ fn first_refusal(complete: bool, in_range: bool, in_order: bool, roomy: bool) ->
 
 // "A planning call tests its sheet itself: 4, 5, 2, 6, 7 ..", with 0 returned; 10 is tested by the planning call. Columns are short, so every test after
 // test 4 is made.
-pub fn admit(sheet: Sheet) -> Result<(), Refusal>
-    ensures { result ≡ admission (sheet_of sheet) }
+pub fn admit(sheet: Sheet) -> Result<AdmittedSheet, Refusal>
+    ensures tests { of_reply result ≡ admission (sheet_of sheet) }
+    ensures same { IfOk result (λ a. a.columns ≡ sheet) }
 {
     if !tests::few(sheet) {
         return Err(Refusal::TooMany(0));
@@ -42,5 +45,6 @@ pub fn admit(sheet: Sheet) -> Result<(), Refusal>
     let in_range = tests::in_range(sheet);
     let in_order = tests::in_order(sheet);
     let roomy = tests::roomy(sheet);
-    first_refusal(complete, in_range, in_order, roomy)
+    first_refusal(complete, in_range, in_order, roomy)?;
+    Ok(AdmittedSheet { columns: sheet })
 }

@@ -3,23 +3,22 @@
 
 ghost use Rattle.std.specs.Prelude.{◌≡◌};
 ghost use Rattle.model.specs.Memory.{sheet_of};
-ghost use Rattle.model.specs.Admission.{Admitted};
 ghost use Rattle.rounds.specs.RoundsBound.{rounds_bound};
 ghost use Rattle.bound.specs.BoundCall.{BoundCall};
 
 use borders::AnySheet;
-use model::{Refusal, Sheet};
+use model::Refusal;
+use model::admitted::AdmittedSheet;
 
-// 1 and, for each train but the last, the places up to it, or the orders if these are fewer. Inner: it asks for an admitted sheet.
-pub fn figure(sheet: Sheet) -> usize
-    requires { Admitted (sheet_of sheet) }
-    ensures { result ≡ rounds_bound (sheet_of sheet) }
+// 1 and, for each train but the last, the places up to it, or the orders if these are fewer. Inner.
+pub fn figure(sheet: AdmittedSheet) -> usize
+    ensures { result ≡ rounds_bound (sheet_of sheet.columns) }
 {
     let mut most: usize = 1;
     let mut places: usize = 0;
-    for &own in &sheet.capacity[..sheet.train_count - 1] {
+    for &own in &sheet.columns.capacity[..sheet.columns.train_count - 1] {
         places += own as usize;
-        most += sheet.order_count.min(places);
+        most += sheet.columns.order_count.min(places);
     }
     most
 }
@@ -28,7 +27,6 @@ pub fn figure(sheet: Sheet) -> usize
 pub fn bound<S: AnySheet>(sheet: S) -> Result<usize, Refusal>
     ensures { BoundCall (S.meant sheet) result }
 {
-    let sheet = sheet.to_sheet();
-    admission::admit(sheet)?;
+    let sheet = admission::admit(sheet.to_sheet())?;
     Ok(figure(sheet))
 }

@@ -23,10 +23,9 @@ pub fn check_gathered<S: AnySheet>(
 ) -> Result<Checked, Refusal>
     ensures { OfRows given (λ rows. CheckingCall (S.meant sheet) departures.now rows result pairs.new pairs.old) }
 {
-    let sheet = sheet.to_sheet();
-    room::for_listing(sheet, pairs.len())?;
+    let sheet = room::for_listing(sheet.to_sheet(), pairs.len())?;
     let pair = judge(sheet, departures, given)?;
-    let reply = list(sheet, pairs);
+    let reply = list(sheet.columns, pairs);
     beside(reply, pair, pairs)
 }
 

@@ -4,7 +4,6 @@
 
 ghost use Rattle.std.specs.Prelude.{◌≡◌};
 ghost use Rattle.model.specs.Memory.{sheet_of};
-ghost use Rattle.model.specs.Admission.{Admitted};
 ghost use Rattle.rounds.specs.SettingOut.{Sets};
 ghost use Rattle.rounds.specs.Answers.{choose_from as chosen_from};
 ghost use Rattle.rounds.specs.Areas.{PlanRoom};
@@ -14,7 +13,8 @@ ghost use Rattle.planner.specs.Outcome.{choice_so};
 ghost use Rattle.planner.specs.Choosing.{ChoosingCall};
 
 use borders::AnySheet;
-use model::{PlanPair, Refusal, Sheet};
+use model::{PlanPair, Refusal};
+use model::admitted::AdmittedSheet;
 use recording::{put_times, put_trains};
 use search::Outset;
 use search::round::round_from;
@@ -30,23 +30,22 @@ pub fn choose<S: AnySheet>(
     ensures { ChoosingCall (S.meant sheet) wish result (areas train_of_order.new times.new)
         (areas train_of_order.old times.old) }
 {
-    let sheet = sheet.to_sheet();
-    room::for_choosing(sheet, train_of_order.len(), times.len())?;
+    let sheet = room::for_choosing(sheet.to_sheet(), train_of_order.len(), times.len())?;
     choose_from(sheet, ordinary(sheet), wish, train_of_order, times)
 }
 
 // Chooses for an admitted sheet from an outset, in areas that have room. No list is kept: each plan in time is written over the one before, and the first pair
 // later than the wish ends the search, since arrivals never fall from round to round.
 pub fn choose_from(
-    sheet: Sheet,
+    sheet: AdmittedSheet,
     outset: Outset,
     wish: u32,
     train_of_order: &mut [u8],
     times: &mut [u32],
 ) -> Result<PlanPair, Refusal>
-    requires admitted { Admitted (sheet_of sheet) × PlanRoom (sheet_of sheet) (areas train_of_order.old times.old) }
-    requires sets { Sets (sheet_of sheet) (outset_of sheet.order_count outset) }
-    ensures { ChoiceTold (sheet_of sheet) (chosen_from (sheet_of sheet) (outset_of sheet.order_count outset) wish) result
+    requires room { PlanRoom (sheet_of sheet.columns) (areas train_of_order.old times.old) }
+    requires sets { Sets (sheet_of sheet.columns) (outset_of sheet.columns.order_count outset) }
+    ensures { ChoiceTold (sheet_of sheet.columns) (chosen_from (sheet_of sheet.columns) (outset_of sheet.columns.order_count outset) wish) result
         (areas train_of_order.new times.new) (areas train_of_order.old times.old) }
 {
     let mut progress = start_from(outset);
@@ -55,12 +54,12 @@ pub fn choose_from(
         progress = round_from(progress, sheet, outset);
         if let Some(timed) = progress.recorded {
             if progress.last <= wish {
-                put_trains(progress.train, sheet.order_count, train_of_order);
+                put_trains(progress.train, sheet.columns.order_count, train_of_order);
                 put_times(
                     timed.departure,
                     timed.arrival,
                     timed.window,
-                    sheet.train_count,
+                    sheet.columns.train_count,
                     times,
                 );
                 choice = Ok(PlanPair {

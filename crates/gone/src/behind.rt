@@ -3,10 +3,9 @@ ghost use Rattle.std.specs.Prelude.{◌≡◌, cond, ◌≤◌, suc, eqb, replic
 ghost use Rattle.numbers.specs.Counting.{at, count};
 ghost use Rattle.model.specs.Memory.{sheet_of};
 ghost use Rattle.model.specs.Limits.{train_counts, order_counts};
-ghost use Rattle.model.specs.Admission.{Admitted};
 ghost use Rattle.gone.specs.GonePart.{Filled, Behind};
 
-use model::Sheet;
+use model::admitted::AdmittedSheet;
 use model::limits::{MOST_ORDERS, MOST_TRAINS};
 use rules::carried;
 use search::Outset;
@@ -57,18 +56,18 @@ fn latest_behind(n: usize, last: u8, mut train: [u8; MOST_ORDERS]) -> [u8; MOST_
 
 // All three, where the first trains have gone with these orders at these departures.
 pub fn behind(
-    sheet: Sheet,
+    sheet: AdmittedSheet,
     gone: usize,
     train: [u8; MOST_ORDERS],
     departure: [u32; MOST_TRAINS],
     minute: u32,
 ) -> Outset
-    requires { Admitted (sheet_of sheet) × (gone ≤ train_counts.most) }
-    ensures { Behind sheet gone train departure minute result }
+    requires { gone ≤ train_counts.most }
+    ensures { Behind sheet.columns gone train departure minute result }
 {
-    let n = sheet.order_count;
-    let last = sheet.train_count as u8;
-    let own = sheet.capacity;
+    let n = sheet.columns.order_count;
+    let last = sheet.columns.train_count as u8;
+    let own = sheet.columns.capacity;
     let capacity = places_behind(n, gone, own, &train);
     let latest = latest_behind(n, last, train);
     let since = since_behind(gone, departure, minute);

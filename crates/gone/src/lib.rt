@@ -9,7 +9,6 @@ ghost use Rattle.numbers.specs.Counting.{nth};
 ghost use Rattle.model.specs.Memory.{sheet_of};
 ghost use Rattle.model.specs.Sheet.{places as K};
 ghost use Rattle.model.specs.Limits.{train_counts};
-ghost use Rattle.model.specs.Admission.{Admitted};
 ghost use Rattle.foreign.specs.Gathered.{OfRows};
 ghost use Rattle.gone.specs.GonePart.{gone_part};
 ghost use Rattle.gone.specs.Ready.{CanSetOut, SetOut};
@@ -18,7 +17,8 @@ use crate::behind::behind;
 use crate::well::went_well;
 use foreign::Given;
 use foreign::fit::column_of;
-use model::{Refusal, Sheet};
+use model::Refusal;
+use model::admitted::AdmittedSheet;
 use places::are_enough;
 use search::Outset;
 
@@ -33,14 +33,13 @@ fn has_places(outset: Outset, q: usize, n: usize) -> bool
 
 // Sets out behind the gone trains: 21 unless they went well, 8 if the orders left outnumber the other trains' places.
 pub fn set_out(
-    sheet: Sheet,
+    sheet: AdmittedSheet,
     departures: &[u32],
     given: Given,
     minute: u32,
 ) -> Result<Outset, Refusal>
-    requires { Admitted (sheet_of sheet) }
-    ensures is { OfRows given (λ rows. SetOut sheet (gone_part departures.now rows minute) result) }
-    ensures sets { CanSetOut sheet result }
+    ensures is { OfRows given (λ rows. SetOut sheet.columns (gone_part departures.now rows minute) result) }
+    ensures sets { CanSetOut sheet.columns result }
 {
     if !went_well(sheet, departures, given, minute) {
         return Err(Refusal::GoneWrong);
@@ -48,7 +47,7 @@ pub fn set_out(
     let train = given.train;
     let departure = column_of(departures);
     let outset = behind(sheet, departures.len(), train, departure, minute);
-    if !has_places(outset, sheet.train_count, sheet.order_count) {
+    if !has_places(outset, sheet.columns.train_count, sheet.columns.order_count) {
         return Err(Refusal::NoSchedule);
     }
     Ok(outset)

@@ -3,7 +3,6 @@
 
 ghost use Rattle.std.specs.Prelude.{◌≡◌};
 ghost use Rattle.model.specs.Memory.{sheet_of};
-ghost use Rattle.model.specs.Admission.{Admitted};
 ghost use Rattle.rounds.specs.SettingOut.{Sets};
 ghost use Rattle.rounds.specs.Answers.{list_from as listed_from};
 ghost use Rattle.rounds.specs.Areas.{ListRoom};
@@ -13,7 +12,8 @@ ghost use Rattle.planner.specs.Outcome.{listed_so};
 ghost use Rattle.planner.specs.Listing.{ListingCall};
 
 use borders::AnySheet;
-use model::{Listed, Refusal, Sheet};
+use model::{Listed, Refusal};
+use model::admitted::AdmittedSheet;
 use recording::list_pair;
 use search::Outset;
 use search::round::round_from;
@@ -23,16 +23,15 @@ use search::start::{ordinary, start_from};
 pub fn list<S: AnySheet>(sheet: S, pairs: &mut [i64]) -> Result<Listed, Refusal>
     ensures { ListingCall (S.meant sheet) result pairs.new pairs.old }
 {
-    let sheet = sheet.to_sheet();
-    room::for_listing(sheet, pairs.len())?;
+    let sheet = room::for_listing(sheet.to_sheet(), pairs.len())?;
     list_from(sheet, ordinary(sheet), pairs)
 }
 
 // Lists the pairs of an admitted sheet from an outset, in an area that has room. The rounds end by themselves.
-pub fn list_from(sheet: Sheet, outset: Outset, pairs: &mut [i64]) -> Result<Listed, Refusal>
-    requires admitted { Admitted (sheet_of sheet) × ListRoom (sheet_of sheet) pairs.old }
-    requires sets { Sets (sheet_of sheet) (outset_of sheet.order_count outset) }
-    ensures { ListTold (listed_from (sheet_of sheet) (outset_of sheet.order_count outset)) result pairs.new pairs.old }
+pub fn list_from(sheet: AdmittedSheet, outset: Outset, pairs: &mut [i64]) -> Result<Listed, Refusal>
+    requires room { ListRoom (sheet_of sheet.columns) pairs.old }
+    requires sets { Sets (sheet_of sheet.columns) (outset_of sheet.columns.order_count outset) }
+    ensures { ListTold (listed_from (sheet_of sheet.columns) (outset_of sheet.columns.order_count outset)) result pairs.new pairs.old }
 {
     let mut progress = start_from(outset);
     let mut count: usize = 0;

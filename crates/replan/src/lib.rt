@@ -35,7 +35,7 @@ fn relist(
     ensures { OfRows given (λ rows. RelistingCall (sheet_of sheet) (gone_part departures.now rows minute) result
         pairs.new pairs.old) }
 {
-    room::for_listing(sheet, pairs.len())?;
+    let sheet = room::for_listing(sheet, pairs.len())?;
     let outset = set_out(sheet, departures, given, minute)?;
     list_from(sheet, outset, pairs)
 }
@@ -53,7 +53,7 @@ fn rechoose(
     ensures { OfRows given (λ rows. RechoosingCall (sheet_of sheet) (gone_part departures.now rows minute) wish result
         (areas train_of_order.new times.new) (areas train_of_order.old times.old)) }
 {
-    room::for_choosing(sheet, train_of_order.len(), times.len())?;
+    let sheet = room::for_choosing(sheet, train_of_order.len(), times.len())?;
     let outset = set_out(sheet, departures, given, minute)?;
     choose_from(sheet, outset, wish, train_of_order, times)
 }

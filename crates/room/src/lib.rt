@@ -2,21 +2,21 @@
 // watching begin with it.
 #![tactic(auto)]
 
-ghost use Rattle.std.specs.Prelude.{◌≡◌, ◌&&◌, cond, ◌*◌, ◌≤◌, leb};
+ghost use Rattle.std.specs.Prelude.{◌≡◌, ◌&&◌, cond, ◌*◌, ◌≤◌, leb, IfOk};
 ghost use Rattle.model.specs.Limits.{train_counts, numbers_a_train};
 ghost use Rattle.model.specs.Memory.{sheet_of};
-ghost use Rattle.model.specs.Admission.{Admitted};
+ghost use Rattle.model.specs.Refusal.{of_reply};
 ghost use Rattle.model.specs.declared.Refusal.TheVariants as cause;
 ghost use Rattle.rounds.specs.Areas.{list_room, plan_room, tested};
 ghost use Rattle.rounds.specs.ByRound.{search_room};
 
 use model::limits::{NUMBERS_A_PAIR, NUMBERS_A_TRAIN};
+use model::admitted::AdmittedSheet;
 use model::{Refusal, Sheet};
 
 // Whether the pairs area has room for as many pairs as the sheet's figure.
-fn holds_pairs(sheet: Sheet, pairs: usize) -> bool
-    requires { Admitted (sheet_of sheet) }
-    ensures { result ≡ list_room (sheet_of sheet) pairs }
+fn holds_pairs(sheet: AdmittedSheet, pairs: usize) -> bool
+    ensures { result ≡ list_room (sheet_of sheet.columns) pairs }
 {
     NUMBERS_A_PAIR * bound::figure(sheet) <= pairs
 }
@@ -41,27 +41,35 @@ fn with_room(room: bool) -> Result<(), Refusal>
 }
 
 // For listing and checking, which fill the pairs area.
-pub fn for_listing(sheet: Sheet, pairs: usize) -> Result<(), Refusal>
-    ensures { result ≡ tested (sheet_of sheet) (list_room (sheet_of sheet) pairs) }
+pub fn for_listing(sheet: Sheet, pairs: usize) -> Result<AdmittedSheet, Refusal>
+    ensures tests { of_reply result ≡ tested (sheet_of sheet) (list_room (sheet_of sheet) pairs) }
+    ensures same { IfOk result (λ a. a.columns ≡ sheet) }
 {
-    admission::admit(sheet)?;
-    with_room(holds_pairs(sheet, pairs))
+    let sheet = admission::admit(sheet)?;
+    with_room(holds_pairs(sheet, pairs))?;
+    Ok(sheet)
 }
 
 // For choosing, which fills the areas for trains and times.
-pub fn for_choosing(sheet: Sheet, trains: usize, times: usize) -> Result<(), Refusal>
-    ensures { result ≡ tested (sheet_of sheet) (plan_room (sheet_of sheet) trains times) }
+pub fn for_choosing(sheet: Sheet, trains: usize, times: usize) -> Result<AdmittedSheet, Refusal>
+    ensures tests { of_reply result ≡ tested (sheet_of sheet) (plan_room (sheet_of sheet) trains times) }
+    ensures same { IfOk result (λ a. a.columns ≡ sheet) }
 {
-    admission::admit(sheet)?;
-    with_room(holds_plan(sheet.order_count, sheet.train_count, trains, times))
+    let sheet = admission::admit(sheet)?;
+    let n = sheet.columns.order_count;
+    let q = sheet.columns.train_count;
+    with_room(holds_plan(n, q, trains, times))?;
+    Ok(sheet)
 }
 
 // For a search by rounds, which fills all three.
-pub fn for_search(sheet: Sheet, pairs: usize, trains: usize, times: usize) -> Result<(), Refusal>
-    ensures { result ≡ tested (sheet_of sheet) (search_room (sheet_of sheet) pairs trains times) }
+pub fn for_search(sheet: Sheet, pairs: usize, trains: usize, times: usize) -> Result<AdmittedSheet, Refusal>
+    ensures tests { of_reply result ≡ tested (sheet_of sheet) (search_room (sheet_of sheet) pairs trains times) }
+    ensures same { IfOk result (λ a. a.columns ≡ sheet) }
 {
-    admission::admit(sheet)?;
-    with_room(
-        holds_pairs(sheet, pairs) & holds_plan(sheet.order_count, sheet.train_count, trains, times),
-    )
+    let sheet = admission::admit(sheet)?;
+    let n = sheet.columns.order_count;
+    let q = sheet.columns.train_count;
+    with_room(holds_pairs(sheet, pairs) & holds_plan(n, q, trains, times))?;
+    Ok(sheet)
 }

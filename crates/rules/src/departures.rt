@@ -3,11 +3,11 @@ ghost use Rattle.std.specs.Prelude.{◌≡◌, ◌&&◌, ◌≤◌, ◌+◌, ◌
 ghost use Rattle.numbers.specs.Counting.{nth, each, any};
 ghost use Rattle.model.specs.Memory.{sheet_of};
 ghost use Rattle.model.specs.Limits.{train_counts, window_counts};
-ghost use Rattle.model.specs.Admission.{Admitted};
 ghost use Rattle.model.specs.ScheduleTest.{allowed};
 
 use model::limits::{MOST_TRAINS, MOST_WINDOWS};
-use model::{Form, Sheet};
+use model::Form;
+use model::admitted::AdmittedSheet;
 
 // Whether instant t lies in one of v windows, both ends included.
 fn is_open(from: &[u32; MOST_WINDOWS], to: &[u32; MOST_WINDOWS], v: usize, t: u32) -> bool
@@ -60,25 +60,24 @@ fn are_fixed(q: usize, fixed: [u32; MOST_TRAINS], departure: [u32; MOST_TRAINS])
 }
 
 // Whether the departures are allowed, by the sheet's form.
-pub fn are_allowed(sheet: Sheet, departure: [u32; MOST_TRAINS]) -> bool
-    requires { Admitted (sheet_of sheet) }
-    ensures { result ≡ allowed (sheet_of sheet).paths sheet.train_count (nth departure) }
+pub fn are_allowed(sheet: AdmittedSheet, departure: [u32; MOST_TRAINS]) -> bool
+    ensures { result ≡ allowed (sheet_of sheet.columns).paths sheet.columns.train_count (nth departure) }
 {
-    first_are_allowed(sheet, sheet.train_count, departure)
+    first_are_allowed(sheet, sheet.columns.train_count, departure)
 }
 
 // Whether the departures of the first q trains are.
-pub fn first_are_allowed(sheet: Sheet, q: usize, departure: [u32; MOST_TRAINS]) -> bool
-    requires { Admitted (sheet_of sheet) × (q ≤ train_counts.most) }
-    ensures { result ≡ allowed (sheet_of sheet).paths q (nth departure) }
+pub fn first_are_allowed(sheet: AdmittedSheet, q: usize, departure: [u32; MOST_TRAINS]) -> bool
+    requires { q ≤ train_counts.most }
+    ensures { result ≡ allowed (sheet_of sheet.columns).paths q (nth departure) }
 {
-    match sheet.form {
+    match sheet.columns.form {
         Form::Windows => {
-            let from = sheet.window_from;
-            let to = sheet.window_to;
-            let open = are_open(from, to, sheet.window_count, q, departure);
-            open & are_spaced(sheet.gap, q, departure)
+            let from = sheet.columns.window_from;
+            let to = sheet.columns.window_to;
+            let open = are_open(from, to, sheet.columns.window_count, q, departure);
+            open & are_spaced(sheet.columns.gap, q, departure)
         }
-        Form::Timetable => are_fixed(q, sheet.departure, departure),
+        Form::Timetable => are_fixed(q, sheet.columns.departure, departure),
     }
 }

@@ -8,13 +8,12 @@ ghost use Rattle.std.specs.Prelude.{◌≡◌, ◌||◌, ◌≤◌, leb, eqb, ta
 ghost use Rattle.numbers.specs.Counting.{at, nth, count, every, each};
 ghost use Rattle.model.specs.Memory.{sheet_of};
 ghost use Rattle.model.specs.Limits.{train_counts, order_counts};
-ghost use Rattle.model.specs.Admission.{Admitted};
 ghost use Rattle.model.specs.ScheduleTest.{is_schedule as is_schedule_of};
 ghost use Rattle.columns.specs.Columns.{UpTo, Loaded};
 
 use crate::departures::are_allowed;
 use columns::of_train;
-use model::Sheet;
+use model::admitted::AdmittedSheet;
 use model::limits::{MOST_ORDERS, MOST_TRAINS};
 
 // How many of n orders ride train i.
@@ -67,14 +66,14 @@ pub fn are_released(
 }
 
 // Whether the orders, each on a train, and the departures are a schedule.
-pub fn is_schedule(sheet: Sheet, train: [u8; MOST_ORDERS], departure: [u32; MOST_TRAINS]) -> bool
-    requires { Admitted (sheet_of sheet) × Loaded (sheet_of sheet) train }
-    ensures { result ≡ is_schedule_of (sheet_of sheet) (take sheet.order_count train) (take sheet.train_count departure) }
+pub fn is_schedule(sheet: AdmittedSheet, train: [u8; MOST_ORDERS], departure: [u32; MOST_TRAINS]) -> bool
+    requires { Loaded (sheet_of sheet.columns) train }
+    ensures { result ≡ is_schedule_of (sheet_of sheet.columns) (take sheet.columns.order_count train) (take sheet.columns.train_count departure) }
 {
-    let n = sheet.order_count;
-    let capacity = sheet.capacity;
-    let release = sheet.release;
-    let room = have_room(n, sheet.train_count, capacity, train);
+    let n = sheet.columns.order_count;
+    let capacity = sheet.columns.capacity;
+    let release = sheet.columns.release;
+    let room = have_room(n, sheet.columns.train_count, capacity, train);
     let released = are_released(n, release, train, departure);
     let allowed = are_allowed(sheet, departure);
     room & released & allowed

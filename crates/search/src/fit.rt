@@ -1,25 +1,23 @@
 // Whether a round can be made from a progress that comes from outside.
 ghost use Rattle.numbers.specs.DecidesLaws.{Decides};
 ghost use Rattle.model.specs.Memory.{sheet_of};
-ghost use Rattle.model.specs.Admission.{Admitted};
 ghost use Rattle.search.specs.Parts.{Begun};
 
 use crate::Progress;
 use lowering::is_crowded;
-use model::Sheet;
+use model::admitted::AdmittedSheet;
 use orderly::{are_orderly, none_above};
 
 // Whether each order has a latest train of the sheet, they are not crowded, the trains are orderly, and fewer rounds were made than the sheet's figure.
-pub fn fits(progress: Progress, sheet: Sheet) -> bool
-    requires { Admitted (sheet_of sheet) }
-    ensures { Decides (Begun (sheet_of sheet) progress) result }
+pub fn fits(progress: Progress, sheet: AdmittedSheet) -> bool
+    ensures { Decides (Begun (sheet_of sheet.columns) progress) result }
 {
-    let n = sheet.order_count;
-    let q = sheet.train_count;
+    let n = sheet.columns.order_count;
+    let q = sheet.columns.train_count;
     let latest = &progress.latest;
     let train = &progress.train;
     none_above(n, latest, q)
-        && are_orderly(n, q, &sheet.release, &sheet.capacity, latest, train)
-        && !is_crowded(n, q, sheet.capacity, *latest)
+        && are_orderly(n, q, &sheet.columns.release, &sheet.columns.capacity, latest, train)
+        && !is_crowded(n, q, sheet.columns.capacity, *latest)
         && progress.rounds < bound::figure(sheet)
 }

@@ -1,7 +1,6 @@
 // One round.
 ghost use Rattle.std.specs.Prelude.{◌≡◌, false, ◌+◌};
 ghost use Rattle.model.specs.Memory.{sheet_of};
-ghost use Rattle.model.specs.Admission.{Admitted};
 ghost use Rattle.rounds.specs.SettingOut.{Sets};
 ghost use Rattle.search.specs.Setting.{outset_of};
 ghost use Rattle.search.specs.Shows.{MakesFrom, Makes};
@@ -10,20 +9,20 @@ ghost use Rattle.search.specs.Parts.{BegunFrom, Begun};
 use crate::start::ordinary;
 use crate::{Outset, Progress};
 use lowering::{is_crowded, lateness, lower};
-use model::Sheet;
+use model::admitted::AdmittedSheet;
 
 // One round of a search that goes on: steps 1 and 2, which may stop it, then 3, and 4 and 5 at the limit. Places and instants are the outset's.
-pub fn round_from(progress: Progress, sheet: Sheet, outset: Outset) -> Progress
-    requires admitted { Admitted (sheet_of sheet) × Sets (sheet_of sheet) (outset_of sheet.order_count outset) }
-    requires ended_value { (progress.ended ≡ false) × BegunFrom (sheet_of sheet) (outset_of sheet.order_count outset) progress }
-    ensures is { MakesFrom (sheet_of sheet) (outset_of sheet.order_count outset) progress result }
+pub fn round_from(progress: Progress, sheet: AdmittedSheet, outset: Outset) -> Progress
+    requires sets { Sets (sheet_of sheet.columns) (outset_of sheet.columns.order_count outset) }
+    requires ended_value { (progress.ended ≡ false) × BegunFrom (sheet_of sheet.columns) (outset_of sheet.columns.order_count outset) progress }
+    ensures is { MakesFrom (sheet_of sheet.columns) (outset_of sheet.columns.order_count outset) progress result }
     ensures counts { result.rounds ≡ progress.rounds + 1 }
 {
-    let n = sheet.order_count;
-    let q = sheet.train_count;
+    let n = sheet.columns.order_count;
+    let q = sheet.columns.train_count;
     let capacity = outset.capacity;
     let latest = progress.latest;
-    let train = loading::load(n, q, &sheet.release, capacity, &latest, progress.train);
+    let train = loading::load(n, q, &sheet.columns.release, capacity, &latest, progress.train);
     let mut next = Progress {
         recorded: None,
         rounds: progress.rounds + 1,
@@ -31,8 +30,8 @@ pub fn round_from(progress: Progress, sheet: Sheet, outset: Outset) -> Progress
         ..progress
     };
     if let Some(timed) = timing::time_trains_since(sheet, train, outset.since) {
-        let weight = sheet.weight;
-        let due = sheet.due;
+        let weight = sheet.columns.weight;
+        let due = sheet.columns.due;
         let arrival = timed.arrival;
         let worst = lateness::worst_of(n, weight, due, train, arrival);
         let last = columns::last_of(arrival, q);
@@ -50,10 +49,9 @@ pub fn round_from(progress: Progress, sheet: Sheet, outset: Outset) -> Progress
 }
 
 // One round of a search from the sheet alone.
-pub fn round(progress: Progress, sheet: Sheet) -> Progress
-    requires admitted { Admitted (sheet_of sheet) }
-    requires ended_value { (progress.ended ≡ false) × Begun (sheet_of sheet) progress }
-    ensures is { Makes (sheet_of sheet) progress result }
+pub fn round(progress: Progress, sheet: AdmittedSheet) -> Progress
+    requires ended_value { (progress.ended ≡ false) × Begun (sheet_of sheet.columns) progress }
+    ensures is { Makes (sheet_of sheet.columns) progress result }
     ensures counts { result.rounds ≡ progress.rounds + 1 }
 {
     round_from(progress, sheet, ordinary(sheet))

@@ -1,23 +1,21 @@
 // The start of a search.
 ghost use Rattle.std.specs.Prelude.{◌≡◌};
 ghost use Rattle.model.specs.Memory.{sheet_of};
-ghost use Rattle.model.specs.Admission.{Admitted};
 ghost use Rattle.rounds.specs.Outset.{ordinary as from_sheet_alone};
 ghost use Rattle.rounds.specs.Rounds.{start};
 ghost use Rattle.search.specs.Setting.{outset_of};
 ghost use Rattle.search.specs.Shows.{Shows, Starts};
 
 use crate::{Outset, Progress};
-use model::Sheet;
+use model::admitted::AdmittedSheet;
 use model::limits::{FIRST_LIMIT, MOST_ORDERS, MOST_TRAINS};
 
 // The sheet alone: its own places, every order may ride the last train, and no train waits for more than gap, window and releases.
-pub fn ordinary(sheet: Sheet) -> Outset
-    requires { Admitted (sheet_of sheet) }
-    ensures { outset_of sheet.order_count result ≡ from_sheet_alone (sheet_of sheet) }
+pub fn ordinary(sheet: AdmittedSheet) -> Outset
+    ensures { outset_of sheet.columns.order_count result ≡ from_sheet_alone (sheet_of sheet.columns) }
 {
-    let trains = sheet.train_count as u8;
-    let capacity = sheet.capacity;
+    let trains = sheet.columns.train_count as u8;
+    let capacity = sheet.columns.capacity;
     Outset {
         capacity,
         latest: [trains; MOST_ORDERS],
@@ -42,9 +40,8 @@ pub fn start_from(outset: Outset) -> Progress
 }
 
 // Before the first round from the sheet alone.
-pub fn start_search(sheet: Sheet) -> Progress
-    requires { Admitted (sheet_of sheet) }
-    ensures { Shows (sheet_of sheet) result (start (sheet_of sheet)) }
+pub fn start_search(sheet: AdmittedSheet) -> Progress
+    ensures { Shows (sheet_of sheet.columns) result (start (sheet_of sheet.columns)) }
 {
     start_from(ordinary(sheet))
 }

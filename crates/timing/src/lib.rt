@@ -6,15 +6,15 @@ ghost use Rattle.numbers.specs.Counting.{at, nth, row};
 ghost use Rattle.model.specs.Memory.{windows_of, sheet_of};
 ghost use Rattle.model.specs.Arrival.{arrival as arrival_of, arrival_behind};
 ghost use Rattle.model.specs.Limits.{last_instant, train_counts, order_counts, gap_range, running_range};
-ghost use Rattle.model.specs.Admission.{Admitted};
 ghost use Rattle.rounds.specs.Timing.{awaited, departures as departures_of};
 ghost use Rattle.rounds.specs.Rounds.{times as times_of};
 ghost use Rattle.columns.specs.Columns.{UpTo, Loaded};
 ghost use Rattle.timing.specs.Timed.{OnTrains, never, departed_in, timed_in, times_since};
 
 use columns::{none_above, of_train};
+use model::Form;
+use model::admitted::AdmittedSheet;
 use model::limits::{MOST_ORDERS, MOST_TRAINS};
-use model::{Form, Sheet};
 
 // The departures of the trains in the window form, and the windows, from 1, in which they leave.
 #[derive(Clone, Copy)]
@@ -51,19 +51,19 @@ fn releases(
 
 // Each train's departure in the window form: the least instant in a window that it may leave at, with that window; none if one of them finds no window.
 // Train i + 1 awaits instant t. A window that is over for one train is over for those behind it, so each turn passes a window or lets a train leave.
-fn find_departures(sheet: Sheet, released: [u32; MOST_TRAINS]) -> Option<Leaving>
-    requires { Admitted (sheet_of sheet) × (sheet.form ≡ Form.Windows) }
-    ensures is { departed_in sheet.train_count result ≡ departures_of (windows_of sheet) (nth released) sheet.train_count }
-    ensures in_time { IfSome result (λ r. UpTo last_instant sheet.train_count r.departure) }
+fn find_departures(sheet: AdmittedSheet, released: [u32; MOST_TRAINS]) -> Option<Leaving>
+    requires { sheet.columns.form ≡ Form.Windows }
+    ensures is { departed_in sheet.columns.train_count result ≡ departures_of (windows_of sheet.columns) (nth released) sheet.columns.train_count }
+    ensures in_time { IfSome result (λ r. UpTo last_instant sheet.columns.train_count r.departure) }
 {
-    let from = sheet.window_from;
-    let to = sheet.window_to;
+    let from = sheet.columns.window_from;
+    let to = sheet.columns.window_to;
     let mut departure = [0u32; MOST_TRAINS];
     let mut window = [0u8; MOST_TRAINS];
     let mut t: u32 = 0;
     let mut i: usize = 0;
     let mut m: usize = 0;
-    while (i < sheet.train_count) & (m < sheet.window_count) {
+    while (i < sheet.columns.train_count) & (m < sheet.columns.window_count) {
         t = t.max(released[i]);
         if to[m] < t {
             m += 1;
@@ -72,10 +72,10 @@ fn find_departures(sheet: Sheet, released: [u32; MOST_TRAINS]) -> Option<Leaving
         t = t.max(from[m]);
         departure[i] = t;
         window[i] = (m + 1) as u8;
-        t += sheet.gap;
+        t += sheet.columns.gap;
         i += 1;
     }
-    (i == sheet.train_count).then_some(Leaving { departure, window })
+    (i == sheet.columns.train_count).then_some(Leaving { departure, window })
 }
 
 // The arrivals of trains 1 to i, each found from the arrival of the train ahead, back to the first train.
@@ -102,44 +102,55 @@ fn arrivals_to(
 }
 
 // The arrivals that follow from the departures in the window form.
-fn find_arrivals(sheet: Sheet, departure: [u32; MOST_TRAINS]) -> [u32; MOST_TRAINS]
-    requires { Admitted (sheet_of sheet) × (sheet.form ≡ Form.Windows) × UpTo never sheet.train_count departure }
-    ensures { take sheet.train_count result ≡ row (arrival_behind sheet.gap (nth sheet.running) (nth departure)) sheet.train_count }
+fn find_arrivals(sheet: AdmittedSheet, departure: [u32; MOST_TRAINS]) -> [u32; MOST_TRAINS]
+    requires { (sheet.columns.form ≡ Form.Windows) × UpTo never sheet.columns.train_count departure }
+    ensures { take sheet.columns.train_count result
+        ≡ row (arrival_behind sheet.columns.gap (nth sheet.columns.running) (nth departure)) sheet.columns.train_count }
 {
-    let running = sheet.running;
-    arrivals_to(sheet.gap, &running, &departure, sheet.train_count as u8)
+    let running = sheet.columns.running;
+    arrivals_to(
+        sheet.columns.gap,
+        &running,
+        &departure,
+        sheet.columns.train_count as u8,
+    )
 }
 
 // The arrivals that follow from these departures, by the sheet's form.
-pub fn arrive(sheet: Sheet, departure: [u32; MOST_TRAINS]) -> [u32; MOST_TRAINS]
-    requires { Admitted (sheet_of sheet) × UpTo last_instant sheet.train_count departure }
-    ensures { take sheet.train_count result ≡ row (arrival_of (sheet_of sheet).paths (nth departure)) sheet.train_count }
+pub fn arrive(sheet: AdmittedSheet, departure: [u32; MOST_TRAINS]) -> [u32; MOST_TRAINS]
+    requires { UpTo last_instant sheet.columns.train_count departure }
+    ensures { take sheet.columns.train_count result ≡ row (arrival_of (sheet_of sheet.columns).paths (nth departure)) sheet.columns.train_count }
 {
-    match sheet.form {
+    match sheet.columns.form {
         Form::Windows => find_arrivals(sheet, departure),
-        Form::Timetable => sheet.arrival,
+        Form::Timetable => sheet.columns.arrival,
     }
 }
 
 // The times of the trains that carry these orders, by the sheet's form; none where step 2 stops the round.
-pub fn time_trains(sheet: Sheet, train: [u8; MOST_ORDERS]) -> Option<Times>
-    requires { Admitted (sheet_of sheet) × Loaded (sheet_of sheet) train }
-    ensures { timed_in sheet.train_count result ≡ times_of (sheet_of sheet) (take sheet.order_count train) }
+pub fn time_trains(sheet: AdmittedSheet, train: [u8; MOST_ORDERS]) -> Option<Times>
+    requires { Loaded (sheet_of sheet.columns) train }
+    ensures { timed_in sheet.columns.train_count result ≡ times_of (sheet_of sheet.columns) (take sheet.columns.order_count train) }
 {
     time_trains_since(sheet, train, [0; MOST_TRAINS])
 }
 
 // The times of the trains that carry these orders and leave no earlier than `since`, by the sheet's form; none where step 2 stops the round.
 pub fn time_trains_since(
-    sheet: Sheet,
+    sheet: AdmittedSheet,
     train: [u8; MOST_ORDERS],
     since: [u32; MOST_TRAINS],
 ) -> Option<Times>
-    requires { Admitted (sheet_of sheet) × Loaded (sheet_of sheet) train }
-    ensures { timed_in sheet.train_count result ≡ times_since (sheet_of sheet) (nth since) (take sheet.order_count train) }
+    requires { Loaded (sheet_of sheet.columns) train }
+    ensures { timed_in sheet.columns.train_count result ≡ times_since (sheet_of sheet.columns) (nth since) (take sheet.columns.order_count train) }
 {
-    let released = releases(sheet.order_count, sheet.release, train, since);
-    match sheet.form {
+    let released = releases(
+        sheet.columns.order_count,
+        sheet.columns.release,
+        train,
+        since,
+    );
+    match sheet.columns.form {
         Form::Windows => {
             let Leaving { departure, window } = find_departures(sheet, released)?;
             let arrival = find_arrivals(sheet, departure);
@@ -150,10 +161,10 @@ pub fn time_trains_since(
             })
         }
         Form::Timetable => {
-            let departure = sheet.departure;
-            let arrival = sheet.arrival;
+            let departure = sheet.columns.departure;
+            let arrival = sheet.columns.arrival;
             let window = [0u8; MOST_TRAINS];
-            none_above(sheet.train_count, released, departure).then_some(Times {
+            none_above(sheet.columns.train_count, released, departure).then_some(Times {
                 departure,
                 arrival,
                 window,

@@ -8,7 +8,7 @@ use Rattle.bound.proofs.figure.Given as goal
 
 abbrev pub invariant-loop-own : goal.invariant-loop-own
 invariant-loop-own l =
-    (l.places ≡ K (nth l.fn.sheet.capacity) l.own-index)
-    × (l.most ≡ 1 + total (summand l.fn.sheet.order_count l.fn.sheet.capacity) l.own-index)
+    (l.places ≡ K (nth l.fn.sheet.columns.capacity) l.own-index)
+    × (l.most ≡ 1 + total (summand l.fn.sheet.columns.order_count l.fn.sheet.columns.capacity) l.own-index)
     × (l.places ≤ 64 * l.own-index)
     × (l.most ≤ 1 + 2048 * l.own-index)

@@ -29,12 +29,12 @@ module _ (m : sheet.Sheet) (o : memory.Outset) (a : Admitted (sheet_of m)) (h : 
 
 pub loop-progress-init : goal.loop-progress-init
 loop-progress-init c =
-    let s = sheet_of c.args.sheet in
-    let o = outset_of c.args.sheet.order_count c.args.outset in
+    let s = sheet_of c.args.sheet.columns in
+    let o = outset_of c.args.sheet.columns.order_count c.args.outset in
     let p = c.start_from-progress.result in
-    let (running, none, zero) = begun s o p (c.start_from-progress.ensures s c.requires.admitted.0.few) in (
+    let (running, none, zero) = begun s o p (c.start_from-progress.ensures s c.args.sheet.admitted.few) in (
       running,
-      choice_begun s (aim c.args.sheet c.args.outset c.requires.admitted.0 c.requires.sets) c.args.wish p
+      choice_begun s (aim c.args.sheet.columns c.args.outset c.args.sheet.admitted c.requires.sets) c.args.wish p
           (areas c.args.train_of_order.now c.args.times.now) running none,
       refl,
       refl,
@@ -44,21 +44,21 @@ pub round_from-progress-requires-clause-ended_value : goal.round_from-progress-r
 round_from-progress-requires-clause-ended_value c =
     let p = c.loop-progress.progress in
     let on = not_yet p.ended (both p.last c.args.wish (not p.ended) c.loop-progress-test.true).0 in
-    (on, can_go_on (sheet_of c.args.sheet) (aim c.args.sheet c.args.outset c.requires.admitted.0 c.requires.sets) p c.loop-progress.invariant.0 on)
+    (on, can_go_on (sheet_of c.args.sheet.columns) (aim c.args.sheet.columns c.args.outset c.args.sheet.admitted c.requires.sets) p c.loop-progress.invariant.0 on)
 
 pub loop-progress-smaller-then-progress-wish : goal.loop-progress-smaller-then-progress-wish
 loop-progress-smaller-then-progress-wish c =
     omega (
       arith,
-      within c.args.sheet c.args.outset c.requires.admitted.0 c.requires.sets c.loop-progress.progress c.args.wish
+      within c.args.sheet.columns c.args.outset c.args.sheet.admitted c.requires.sets c.loop-progress.progress c.args.wish
           c.loop-progress.invariant.0 c.loop-progress-test.true,
       c.round_from-progress.ensures.counts,
     )
 
 pub loop-progress-preserved-then-progress-wish : goal.loop-progress-preserved-then-progress-wish
 loop-progress-preserved-then-progress-wish c =
-    let s = sheet_of c.args.sheet in
-    let o = outset_of c.args.sheet.order_count c.args.outset in
+    let s = sheet_of c.args.sheet.columns in
+    let o = outset_of c.args.sheet.columns.order_count c.args.outset in
     let p = c.loop-progress.progress in
     let r = c.round_from-progress.result in
     let v = c.loop-progress.invariant in
@@ -69,7 +69,7 @@ loop-progress-preserved-then-progress-wish c =
     let limit = to_z-of_z {w = w64} fits in (
       going.0,
       rw limit
-          (choice_taken s (aim c.args.sheet c.args.outset c.requires.admitted.0 c.requires.sets) c.args.wish p r c.loop-progress.choice _
+          (choice_taken s (aim c.args.sheet.columns c.args.outset c.args.sheet.admitted c.requires.sets) c.args.wish p r c.loop-progress.choice _
           (areas c.args.train_of_order.now c.args.times.now) v.1 early c.in-Some.timed is c.if-progress-wish.true _ _ c.put_trains.ensures c.put_times.ensures),
       omega (arith, c.put_trains.auto, v.2),
       omega (arith, c.put_times.auto, v.3),
@@ -79,22 +79,22 @@ pub loop-progress-smaller-else-progress-wish : goal.loop-progress-smaller-else-p
 loop-progress-smaller-else-progress-wish c =
     omega (
       arith,
-      within c.args.sheet c.args.outset c.requires.admitted.0 c.requires.sets c.loop-progress.progress c.args.wish
+      within c.args.sheet.columns c.args.outset c.args.sheet.admitted c.requires.sets c.loop-progress.progress c.args.wish
           c.loop-progress.invariant.0 c.loop-progress-test.true,
       c.round_from-progress.ensures.counts,
     )
 
 pub loop-progress-preserved-else-progress-wish : goal.loop-progress-preserved-else-progress-wish
 loop-progress-preserved-else-progress-wish c =
-    let s = sheet_of c.args.sheet in
-    let o = outset_of c.args.sheet.order_count c.args.outset in
+    let s = sheet_of c.args.sheet.columns in
+    let o = outset_of c.args.sheet.columns.order_count c.args.outset in
     let p = c.loop-progress.progress in
     let r = c.round_from-progress.result in
     let v = c.loop-progress.invariant in
     let going = next s o p r v.0 c.round_from-progress.ensures.is c.round_from-progress.ensures.counts in
     let early = (both p.last c.args.wish (not p.ended) c.loop-progress-test.true).1 in (
       going.0,
-      choice_kept s (aim c.args.sheet c.args.outset c.requires.admitted.0 c.requires.sets) c.args.wish p r c.loop-progress.choice _
+      choice_kept s (aim c.args.sheet.columns c.args.outset c.args.sheet.admitted c.requires.sets) c.args.wish p r c.loop-progress.choice _
           (areas c.args.train_of_order.now c.args.times.now) v.1 early v.0 going.0 going.1 (inr (omega arith)),
       v.2,
       v.3,
@@ -104,22 +104,22 @@ pub loop-progress-smaller : goal.loop-progress-smaller
 loop-progress-smaller c =
     omega (
       arith,
-      within c.args.sheet c.args.outset c.requires.admitted.0 c.requires.sets c.loop-progress.progress c.args.wish
+      within c.args.sheet.columns c.args.outset c.args.sheet.admitted c.requires.sets c.loop-progress.progress c.args.wish
           c.loop-progress.invariant.0 c.loop-progress-test.true,
       c.round_from-progress.ensures.counts,
     )
 
 pub loop-progress-preserved : goal.loop-progress-preserved
 loop-progress-preserved c =
-    let s = sheet_of c.args.sheet in
-    let o = outset_of c.args.sheet.order_count c.args.outset in
+    let s = sheet_of c.args.sheet.columns in
+    let o = outset_of c.args.sheet.columns.order_count c.args.outset in
     let p = c.loop-progress.progress in
     let r = c.round_from-progress.result in
     let v = c.loop-progress.invariant in
     let going = next s o p r v.0 c.round_from-progress.ensures.is c.round_from-progress.ensures.counts in
     let early = (both p.last c.args.wish (not p.ended) c.loop-progress-test.true).1 in (
       going.0,
-      choice_kept s (aim c.args.sheet c.args.outset c.requires.admitted.0 c.requires.sets) c.args.wish p r c.loop-progress.choice _
+      choice_kept s (aim c.args.sheet.columns c.args.outset c.args.sheet.admitted c.requires.sets) c.args.wish p r c.loop-progress.choice _
           (areas c.args.train_of_order.now c.args.times.now) v.1 early v.0 going.0 going.1 (inl c.in_default.is),
       v.2,
       v.3,
@@ -129,6 +129,6 @@ pub returns : goal.returns
 returns c =
     let p = c.loop-progress.progress in
     rw c.told.ensures
-    (choice_ended (sheet_of c.args.sheet) (aim c.args.sheet c.args.outset c.requires.admitted.0 c.requires.sets) c.args.wish p
+    (choice_ended (sheet_of c.args.sheet.columns) (aim c.args.sheet.columns c.args.outset c.args.sheet.admitted c.requires.sets) c.args.wish p
     c.loop-progress.choice _ (areas c.args.train_of_order.now c.args.times.now) c.loop-progress.invariant.0 c.loop-progress.invariant.1
     (⊎_elim (λ over. inl (by_now p.ended over)) inr (not_both p.last c.args.wish (not p.ended) c.loop-progress-test.false)))

@@ -12,7 +12,7 @@ use Rattle.choosing.proofs.choose_from.Given as goal
 
 abbrev pub invariant-loop-progress : goal.invariant-loop-progress
 invariant-loop-progress l =
-    let s = sheet_of l.sheet in
+    let s = sheet_of l.sheet.columns in
     let o = outset_of s.orders l.outset in
     RunningFrom s o l.progress
     × Holds s l.wish l.choice (areas l.train_of_order l.times) (areas l.initial.train_of_order l.initial.times) l.progress.last (recorded_now_from
@@ -21,4 +21,4 @@ invariant-loop-progress l =
     × (length l.times ≡ length l.initial.times)
 
 abbrev pub decreases-loop-progress : goal.decreases-loop-progress
-decreases-loop-progress l = rounds_bound (sheet_of l.sheet) - l.progress.rounds
+decreases-loop-progress l = rounds_bound (sheet_of l.sheet.columns) - l.progress.rounds

@@ -12,7 +12,7 @@ use Rattle.listing.proofs.list_from.Given as goal
 
 abbrev pub invariant-loop-progress : goal.invariant-loop-progress
 invariant-loop-progress l =
-    let s = sheet_of l.sheet in
+    let s = sheet_of l.sheet.columns in
     let o = outset_of s.orders l.outset in
     RunningFrom s o l.progress
     × Lists l.initial.pairs (held_list l.count l.progress.last l.pairs) (recorded_now_from s o l.progress)
@@ -20,4 +20,4 @@ invariant-loop-progress l =
     × (length l.pairs ≡ length l.initial.pairs)
 
 abbrev pub decreases-loop-progress : goal.decreases-loop-progress
-decreases-loop-progress l = rounds_bound (sheet_of l.sheet) - l.progress.rounds
+decreases-loop-progress l = rounds_bound (sheet_of l.sheet.columns) - l.progress.rounds

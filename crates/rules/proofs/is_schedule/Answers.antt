@@ -7,14 +7,14 @@ use Rattle.rules.proofs.is_schedule.Goals as goal
 pub returns : goal.returns
 returns c =
     let a = c.args in
-    let few = c.requires.0.few in
+    let few = c.args.sheet.admitted.few in
     let trains_long : length a.train ≡ 200 = search rules in
     let departures_long : length a.departure ≡ 32 = search rules in
     rw (
       c.have_room-room.ensures,
       c.are_released-released.ensures,
-      all_ride a.sheet.release a.departure a.train a.sheet.order_count (λ j l. (c.requires.1 j l).0),
+      all_ride a.sheet.columns.release a.departure a.train a.sheet.columns.order_count (λ j l. (c.requires j l).0),
       c.are_allowed-allowed.ensures,
     )
-    (sym (tests_schedule (sheet_of a.sheet) a.train a.departure c.requires.1 (omega (arith, trains_long, few.orders))
+    (sym (tests_schedule (sheet_of a.sheet.columns) a.train a.departure c.requires (omega (arith, trains_long, few.orders))
     (omega (arith, departures_long, few.trains))))

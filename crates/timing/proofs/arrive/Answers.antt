@@ -6,7 +6,7 @@ use Rattle.timing.proofs.arrive.Goals as goal
 
 pub returns-in-Timetable : goal.returns-in-Timetable
 returns-in-Timetable c =
-    let m = c.args.sheet in
+    let m = c.args.sheet.columns in
     let long : length m.arrival ≡ 32 = search rules in
     arrived_by_form m c.args.departure m.arrival Timetable c.in-Timetable.is
-    (sym (row_nth m.arrival m.train_count (omega (arith, long, c.requires.0.few.trains))))
+    (sym (row_nth m.arrival m.train_count (omega (arith, long, c.args.sheet.admitted.few.trains))))

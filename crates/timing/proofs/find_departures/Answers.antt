@@ -24,9 +24,9 @@ loop-i-init c = (
 
 pub overflow_add-t : goal.overflow_add-t
 overflow_add-t c =
-    let w = c.args.sheet in
+    let w = c.args.sheet.columns in
     let m = c.loop-i.m in
-    let within = windows_in_range w c.requires.0 c.requires.1 in
+    let within = windows_in_range w c.args.sheet.admitted c.requires in
     let more = both_to_come c.loop-i.i _ m _ c.loop-i-test.true in
     let range = within.windows (suc m) (omega arith) (omega (arith, more.1)) in
     omega (
@@ -43,16 +43,16 @@ overflow_add-t c =
 pub loop-i-preserved : goal.loop-i-preserved
 loop-i-preserved c =
     let s = c.args in
-    let w = s.sheet in
+    let w = s.sheet.columns in
     let inv = c.loop-i.invariant in
     let i = c.loop-i.i in
     let m = c.loop-i.m in
     let t = c.max-t in
     let v = c.max-t-in-loop-i.result in
-    let within = windows_in_range w c.requires.0 c.requires.1 in
+    let within = windows_in_range w c.args.sheet.admitted c.requires in
     let more = both_to_come i _ m _ c.loop-i-test.true in
     let range = within.windows (suc m) (omega arith) (omega (arith, more.1)) in
-    let few : i < 32 = omega (arith, more.0, c.requires.0.few.trains) in
+    let few : i < 32 = omega (arith, more.0, c.args.sheet.admitted.few.trains) in
     let early : v ≤ 100000 =
     omega (arith, c.max-t-in-loop-i.ensures, c.if-to-m.false, range.from.1, range.to.1, nth_at w.window_from m, nth_at w.window_to m) in
     let e : v ≡ max t.result (nth w.window_from (m + 1)) = rw (add-one m) (omega (arith, c.max-t-in-loop-i.ensures, nth_at w.window_from m)) in
@@ -73,7 +73,7 @@ loop-i-preserved c =
 pub returns-clause-is : goal.returns-clause-is
 returns-clause-is c =
     let s = c.args in
-    let w = s.sheet in
+    let w = s.sheet.columns in
     let l = c.loop-i in
     let inv = l.invariant in
     let q = w.train_count in
@@ -93,4 +93,4 @@ pub returns-clause-in_time : goal.returns-clause-in_time
 returns-clause-in_time c =
     let l = c.loop-i in
     let leaving : Leaving = record { departure = l.departure; window = l.window } in
-    rw c.then_some.ensures (left_in_time leaving l.i c.args.sheet.train_count l.invariant.1.1)
+    rw c.then_some.ensures (left_in_time leaving l.i c.args.sheet.columns.train_count l.invariant.1.1)

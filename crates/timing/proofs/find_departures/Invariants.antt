@@ -11,11 +11,11 @@ use Rattle.timing.proofs.find_departures.Given as goal
 
 abbrev pub invariant-loop-i : goal.invariant-loop-i
 invariant-loop-i l =
-    ((l.i ≤ l.sheet.train_count) × (l.m ≤ l.sheet.window_count) × (length l.window ≡ 32))
+    ((l.i ≤ l.sheet.columns.train_count) × (l.m ≤ l.sheet.columns.window_count) × (length l.window ≡ 32))
     × HaveLeft l.i l.departure
-    × (departures (windows_of l.sheet) (nth l.released) l.i ≡ departed (take l.i l.departure) (take l.i l.window))
-    × (max l.t (at l.released l.i) ≡ earliest l.sheet.gap (take l.i l.departure) l.i (at l.released l.i))
+    × (departures (windows_of l.sheet.columns) (nth l.released) l.i ≡ departed (take l.i l.departure) (take l.i l.window))
+    × (max l.t (at l.released l.i) ≡ earliest l.sheet.columns.gap (take l.i l.departure) l.i (at l.released l.i))
     × WindowsOver l.to (max l.t (at l.released l.i)) l.m
 
 abbrev pub decreases-loop-i : goal.decreases-loop-i
-decreases-loop-i l = l.sheet.train_count - l.i + (l.sheet.window_count - l.m)
+decreases-loop-i l = l.sheet.columns.train_count - l.i + (l.sheet.columns.window_count - l.m)

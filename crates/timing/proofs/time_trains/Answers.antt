@@ -5,4 +5,4 @@ use Rattle.timing.proofs.TimingStepLaws.{since_none}
 use Rattle.timing.proofs.time_trains.Goals as goal
 
 pub returns : goal.returns
-returns c = c.time_trains_since.ensures ∙ since_none (sheet_of c.args.sheet) (take c.args.sheet.order_count c.args.train)
+returns c = c.time_trains_since.ensures ∙ since_none (sheet_of c.args.sheet.columns) (take c.args.sheet.columns.order_count c.args.train)

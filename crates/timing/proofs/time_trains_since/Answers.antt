@@ -10,28 +10,28 @@ use Rattle.timing.proofs.time_trains_since.Goals as goal
 
 pub returns-in_err-departure-in-Windows : goal.returns-in_err-departure-in-Windows
 returns-in_err-departure-in-Windows c =
-    let m = c.args.sheet in
+    let m = c.args.sheet.columns in
     let released = c.releases-released in
     ap (timed_in m.train_count) c.from_residual.ensures
     ∙ windows_stopped (windows_of m) (nth released.result) m.train_count c.in_err-departure-in-Windows.ensures.is
-    ∙ timed_by_form m c.args.train c.args.since released.result Windows c.in-Windows.is c.requires.0.few.trains released.ensures
+    ∙ timed_by_form m c.args.train c.args.since released.result Windows c.in-Windows.is c.args.sheet.admitted.few.trains released.ensures
 
 pub returns-in_ok-departure-in-Windows : goal.returns-in_ok-departure-in-Windows
 returns-in_ok-departure-in-Windows c =
-    let m = c.args.sheet in
+    let m = c.args.sheet.columns in
     let released = c.releases-released in
     let leaving = c.in_ok-departure-in-Windows.field-0 in
     let arrivals = c.find_arrivals-arrival in
     windows_timed (windows_of m) (nth released.result) m.train_count leaving.departure arrivals.result leaving.window
     c.in_ok-departure-in-Windows.ensures.is arrivals.ensures
-    ∙ timed_by_form m c.args.train c.args.since released.result Windows c.in-Windows.is c.requires.0.few.trains released.ensures
+    ∙ timed_by_form m c.args.train c.args.since released.result Windows c.in-Windows.is c.args.sheet.admitted.few.trains released.ensures
 
 pub returns-in-Timetable : goal.returns-in-Timetable
 returns-in-Timetable c =
-    let m = c.args.sheet in
+    let m = c.args.sheet.columns in
     let released = c.releases-released in
     let keeps = c.none_above in
-    let few = c.requires.0.few.trains in
+    let few = c.args.sheet.admitted.few.trains in
     let departures_long : length m.departure ≡ 32 = search rules in
     let arrivals_long : length m.arrival ≡ 32 = search rules in
     let told : Times = record { departure = m.departure; arrival = m.arrival; window = replicate 32 0 } in

@@ -9,12 +9,13 @@ use Rattle.rules.proofs.pair.pair_of.Goals as goal
 pub arrive-arrival-requires : goal.arrive-arrival-requires
 arrive-arrival-requires c =
     let a = c.args in
-    (c.requires.0, leaves_in_time (sheet_of a.sheet) c.requires.0 a.train a.departure c.requires.1)
+    leaves_in_time (sheet_of a.sheet.columns) a.sheet.admitted a.train a.departure c.requires
 
 pub worst_of-worst-requires : goal.worst_of-worst-requires
 worst_of-worst-requires c =
-    let m = c.args.sheet in
-    let (a, h) = c.requires in
+    let m = c.args.sheet.columns in
+    let a = c.args.sheet.admitted in
+    let h = c.requires in
     let r = c.arrive-arrival in
     let in_time = arrives_in_time (sheet_of m) a c.args.train c.args.departure h r.result r.ensures in
     (a.complete.orders, in_ranges m a, arrives m a c.args.train r.result (loaded_column (sheet_of m) c.args.train h.on_a_train) in_time)
@@ -22,8 +23,9 @@ worst_of-worst-requires c =
 pub returns : goal.returns
 returns c =
     let found = c.worst_of-worst in
-    let m = sheet_of c.args.sheet in
-    let (a, h) = c.requires in
+    let m = sheet_of c.args.sheet.columns in
+    let a = c.args.sheet.admitted in
+    let h = c.requires in
     let r = c.arrive-arrival in
     let last = arrival_is m a c.args.train c.args.departure h r.result r.ensures m.trains a.complete.trains (omega arith) in
     let worst = worst_is m a c.args.train c.args.departure h r.result r.ensures in

@@ -5,5 +5,5 @@ use Rattle.search.proofs.fit.fits.Goals as goal
 
 pub is_crowded-requires : goal.is_crowded-requires
 is_crowded-requires c =
-    let a = c.requires in
-    (a.few.orders, a.few.trains, few_places c.args.sheet a, omega (arith, a.roomy))
+    let a = c.args.sheet.admitted in
+    (a.few.orders, a.few.trains, few_places c.args.sheet.columns a, omega (arith, a.roomy))

@@ -5,7 +5,7 @@ use Rattle.rounds.specs.SettingOut.{Sets}
 use Rattle.rounds.proofs.AimLaws.{ordinary_sets}
 use Rattle.search.proofs.round.round.Goals as goal
 
-pub round_from-requires-clause-admitted : goal.round_from-requires-clause-admitted
-round_from-requires-clause-admitted c =
-    let s = sheet_of c.args.sheet in
-    (c.requires.admitted, subst (Sets s) (sym c.ordinary.ensures) (ordinary_sets s c.requires.admitted))
+pub round_from-requires-clause-sets : goal.round_from-requires-clause-sets
+round_from-requires-clause-sets c =
+    let s = sheet_of c.args.sheet.columns in
+    subst (Sets s) (sym c.ordinary.ensures) (ordinary_sets s c.args.sheet.admitted)

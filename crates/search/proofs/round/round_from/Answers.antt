@@ -66,46 +66,46 @@ module _ (m : sheet.Sheet) (o : memory.Outset) (p : Progress) (admitted : Admitt
         in_time = made_in_time (sheet_of m) (outset_of m.order_count o) admitted.0 _ t made
 
 pub load-train-requires : goal.load-train-requires
-load-train-requires c = to_load c.args.sheet c.args.outset c.args.progress c.requires.admitted c.requires.ended_value.1
+load-train-requires c = to_load c.args.sheet.columns c.args.outset c.args.progress (c.args.sheet.admitted, c.requires.sets) c.requires.ended_value.1
 
 pub time_trains_since-requires : goal.time_trains_since-requires
 time_trains_since-requires c = (
-  c.requires.admitted.0,
-  loaded_column (sheet_of c.args.sheet) c.load-train.result
-      (rides c.args.sheet c.args.outset c.args.progress c.requires.admitted c.requires.ended_value.1 c.load-train.result c.load-train.ensures),
+  c.args.sheet.admitted,
+  loaded_column (sheet_of c.args.sheet.columns) c.load-train.result
+      (rides c.args.sheet.columns c.args.outset c.args.progress (c.args.sheet.admitted, c.requires.sets) c.requires.ended_value.1 c.load-train.result c.load-train.ensures),
 )
 
 pub overflow_add-next : goal.overflow_add-next
 overflow_add-next c =
     omega (
       arith,
-      few_rounds (sheet_of c.args.sheet) (outset_of c.args.sheet.order_count c.args.outset) c.requires.admitted.0 c.args.progress
+      few_rounds (sheet_of c.args.sheet.columns) (outset_of c.args.sheet.columns.order_count c.args.outset) c.args.sheet.admitted c.args.progress
           c.requires.ended_value.1,
     )
 
 pub worst_of-worst-requires : goal.worst_of-worst-requires
 worst_of-worst-requires c =
-    let m = c.args.sheet in
-    let a = c.requires.admitted.0 in
+    let m = c.args.sheet.columns in
+    let a = c.args.sheet.admitted in
     let b = c.requires.ended_value.1 in (
       a.complete.orders,
       in_ranges m a,
       arrives m a c.load-train.result c.in-Some.timed.arrival
-          (loaded_column (sheet_of m) c.load-train.result (rides c.args.sheet c.args.outset c.args.progress c.requires.admitted b
+          (loaded_column (sheet_of m) c.load-train.result (rides c.args.sheet.columns c.args.outset c.args.progress (c.args.sheet.admitted, c.requires.sets) b
           c.load-train.result c.load-train.ensures))
-          (in_time c.args.sheet c.args.outset c.args.progress c.requires.admitted b c.load-train.result c.load-train.ensures
+          (in_time c.args.sheet.columns c.args.outset c.args.progress (c.args.sheet.admitted, c.requires.sets) b c.load-train.result c.load-train.ensures
           c.time_trains_since.result c.time_trains_since.ensures
           c.in-Some.timed c.in-Some.is),
     )
 
 pub lower-lowered-requires : goal.lower-lowered-requires
 lower-lowered-requires c =
-    let m = c.args.sheet in
-    let a = c.requires.admitted.0 in
+    let m = c.args.sheet.columns in
+    let a = c.args.sheet.admitted in
     let b = c.requires.ended_value.1 in (
       in_ranges m a,
       arrives_to m a c.in-Some.timed.arrival c.args.progress.latest
-          (in_time c.args.sheet c.args.outset c.args.progress c.requires.admitted b c.load-train.result c.load-train.ensures
+          (in_time c.args.sheet.columns c.args.outset c.args.progress (c.args.sheet.admitted, c.requires.sets) b c.load-train.result c.load-train.ensures
           c.time_trains_since.result c.time_trains_since.ensures
           c.in-Some.timed c.in-Some.is)
           b.latest,
@@ -113,15 +113,15 @@ lower-lowered-requires c =
 
 pub is_crowded-requires : goal.is_crowded-requires
 is_crowded-requires c =
-    let m = c.args.sheet in
-    let a = c.requires.admitted.0 in
-    let h = c.requires.admitted.1 in
+    let m = c.args.sheet.columns in
+    let a = c.args.sheet.admitted in
+    let h = c.requires.sets in
     (a.few.orders, a.few.trains, places_few m a c.args.outset h, places_enough m a c.args.outset h)
 
 pub returns-after-worst-next-clause-is : goal.returns-after-worst-next-clause-is
 returns-after-worst-next-clause-is c =
-    let m = c.args.sheet in
-    let a = c.requires.admitted.0 in
+    let m = c.args.sheet.columns in
+    let a = c.args.sheet.admitted in
     let b = c.requires.ended_value.1 in
     let p = c.args.progress in
     let its = c.in-Some.timed in
@@ -132,7 +132,7 @@ returns-after-worst-next-clause-is c =
     let same_worst = to_z-of_z {w = w64} {z = c.worst_of-worst.result} (record { sfits = c.worst_of-worst.type_inv }) in
     let worst_is = c.worst_of-worst.ensures
     ∙ worst_taken (at m.weight) (at m.due) (take m.order_count train) its.arrival m.train_count m.order_count a.complete.orders
-    (rides m c.args.outset p c.requires.admitted b train c.load-train.ensures) in
+    (rides m c.args.outset p (c.args.sheet.admitted, c.requires.sets) b train c.load-train.ensures) in
     let last_is = c.last_of-last.ensures
     ∙ sym (get_or-take m.train_count its.arrival (m.train_count - 1) 0 (omega (arith, a.complete.trains))) in
     let r = c.if-worst-next.next in
@@ -159,14 +159,14 @@ returns-after-worst-next-clause-is c =
     let lowered = rw (to_z-of_z {w = w64} left) at c.lower-lowered.ensures
     ∙ lower_taken (at m.weight) (at m.due) its.arrival r.limit latest m.train_count m.order_count low in
     round_made (sheet_of m) (outset_of m.order_count c.args.outset) p _ c.requires.ended_value.0 graded.0 its b.latest c.load-train.ensures
-    (made m c.args.outset p c.requires.admitted b train c.load-train.ensures _ c.time_trains_since.ensures c.in-Some.timed c.in-Some.is) graded.1
+    (made m c.args.outset p (c.args.sheet.admitted, c.requires.sets) b train c.load-train.ensures _ c.time_trains_since.ensures c.in-Some.timed c.in-Some.is) graded.1
     (lowered, c.is_crowded.ensures)
 
 pub returns-in_default-clause-is : goal.returns-in_default-clause-is
 returns-in_default-clause-is c =
     let b = c.requires.ended_value.1 in
-    round_stopped (sheet_of c.args.sheet) (outset_of c.args.sheet.order_count c.args.outset) c.args.progress _ c.requires.ended_value.0 refl
+    round_stopped (sheet_of c.args.sheet.columns) (outset_of c.args.sheet.columns.order_count c.args.outset) c.args.progress _ c.requires.ended_value.0 refl
     b.orderly
-    (rw c.in_default.is at (timings c.args.sheet c.args.outset c.args.progress c.requires.admitted b c.load-train.result c.load-train.ensures
+    (rw c.in_default.is at (timings c.args.sheet.columns c.args.outset c.args.progress (c.args.sheet.admitted, c.requires.sets) b c.load-train.result c.load-train.ensures
     c.time_trains_since.result c.time_trains_since.ensures))
     refl refl refl

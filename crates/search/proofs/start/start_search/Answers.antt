@@ -8,6 +8,6 @@ use Rattle.search.proofs.start.start_search.Goals as goal
 
 pub returns : goal.returns
 returns c =
-    let s = sheet_of c.args.sheet in
+    let s = sheet_of c.args.sheet.columns in
     subst (λ (o : Outset). ShowsFrom s o c.start_from.result (start_from o)) c.ordinary.ensures
-    (c.start_from.ensures s c.requires.few)
+    (c.start_from.ensures s c.args.sheet.admitted.few)
