@@ -16,19 +16,16 @@ use Rattle.rounds.specs.Told.{Told}
 
 -- ---- the tests
 
--- where tests 4, 5, 2, 6, 7 say a: the first that failed
-pub tested_first : (s : Sheet) (room : Bool) (a : Admission) (r : Refusal) → a ≡ admission s → a ≡ Err r → a ≡ tested s room
+-- what tests 4, 5, 2, 6, 7 refuse
+pub tested_first : (s : Sheet) (room : Bool) (r : Refusal) → Err r ≡ admission s → Err r ≡ tested s room
 unfolding tested after_admission
-tested_first s room a r is e = e ∙ ap (after_admission room) (sym e ∙ is)
+tested_first s room r e = ap (after_admission room) e
 
--- or 10
-pub tested_room : (s : Sheet) (room : Bool) (a : Admission) → a ≡ admission s → a ≡ Ok tt → cond room (Ok tt) (Err AreaTooShort) ≡ tested s room
+-- where they grant: 10, of areas of which it is asked whether they have room
+pub tested_room : (s : Sheet) {asked room : Bool} {t : Admission} → Ok tt ≡ admission s → t ≡ cond asked (Ok tt) (Err AreaTooShort) → asked ≡ room
+    → t ≡ tested s room
 unfolding tested after_admission
-tested_room s room a is e = ap (after_admission room) (sym e ∙ is)
-
--- where they grant, the sheet is admitted
-pub granted_so : (s : Sheet) (a : Admission) → a ≡ admission s → a ≡ Ok tt → Admitted s
-granted_so s a is e = (admitted_means s).0 (sym is ∙ e)
+tested_room s {room = room} granted e same = e ∙ rw same (ap (after_admission room) granted)
 
 -- a sheet that passes is admitted, and the areas have room
 pub passed : (s : Sheet) (room : Bool) → tested s room ≡ Ok tt → Admitted s × (room ≡ true)

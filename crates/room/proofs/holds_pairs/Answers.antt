@@ -5,4 +5,4 @@ use Rattle.rounds.proofs.BoundLaws.{bound_most}
 use Rattle.room.proofs.holds_pairs.Goals as goal
 
 pub overflow_mul-result : goal.overflow_mul-result
-overflow_mul-result c = omega (arith, c.figure.ensures, bound_most (sheet_of c.args.sheet) c.requires)
+overflow_mul-result c = omega (arith, c.figure.ensures, bound_most (sheet_of c.args.sheet.columns) c.args.sheet.admitted)
