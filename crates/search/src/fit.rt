@@ -17,7 +17,14 @@ pub fn fits(progress: Progress, sheet: AdmittedSheet) -> bool
     let latest = &progress.latest;
     let train = &progress.train;
     none_above(n, latest, q)
-        && are_orderly(n, q, &sheet.columns.release, &sheet.columns.capacity, latest, train)
+        && are_orderly(
+            n,
+            q,
+            &sheet.columns.release,
+            &sheet.columns.capacity,
+            latest,
+            train,
+        )
         && !is_crowded(n, q, sheet.columns.capacity, *latest)
         && progress.rounds < bound::figure(sheet)
 }

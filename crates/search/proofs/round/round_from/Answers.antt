@@ -28,20 +28,20 @@ use Rattle.search.proofs.round.round_from.Goals as goal
 use Rattle.search.proofs.round.round_from.Goals.{then-worst-next, else-worst-next}
 
 -- where the round is begun
-module _ (m : sheet.Sheet) (o : memory.Outset) (p : Progress) (admitted : Admitted (sheet_of m) × Sets (sheet_of m) (outset_of m.order_count o))
-    (begun : BegunFrom (sheet_of m) (outset_of m.order_count o) p) where
+module _ (m : sheet.Sheet) (o : memory.Outset) (p : Progress) (admitted : Admitted (sheet_of m))
+    (sets : Sets (sheet_of m) (outset_of m.order_count o)) (begun : BegunFrom (sheet_of m) (outset_of m.order_count o) p) where
   -- step 1
   abbrev loading : List ℕ
   loading = loading_from (sheet_of m) (outset_of m.order_count o) (take m.order_count p.latest)
 
   to_load : ToLoad m.order_count m.train_count m.release o.capacity p.latest p.train
   to_load =
-      let a = admitted.0 in
+      let a = admitted in
       record {
         few_orders = a.few.orders;
         few_trains = a.few.trains;
         releases = λ j l. (a.within_range.orders j l).release.1;
-        capacities = places_few m a o admitted.1;
+        capacities = places_few m a o sets;
         may_ride = begun.latest;
         begins = begun.orderly;
       }
@@ -49,7 +49,7 @@ module _ (m : sheet.Sheet) (o : memory.Outset) (p : Progress) (admitted : Admitt
   -- where the trains are loaded: the first orders' trains are those of step 1
   module _ (train : List ℕ) (loaded : take m.order_count train ≡ loading) where
     rides : Loaded (sheet_of m) (take m.order_count train)
-    rides = subst (Loaded (sheet_of m)) (sym loaded) (loads (sheet_of m) (outset_of m.order_count o) admitted.0 p begun)
+    rides = subst (Loaded (sheet_of m)) (sym loaded) (loads (sheet_of m) (outset_of m.order_count o) admitted p begun)
 
     -- where they are timed
     module _ (out : Option Times) (times : timed_in m.train_count out ≡ times_from (sheet_of m) (outset_of m.order_count o) (take m.order_count train)) where
@@ -63,17 +63,16 @@ module _ (m : sheet.Sheet) (o : memory.Outset) (p : Progress) (admitted : Admitt
         made = timings ∙ ap (timed_in m.train_count) runs
 
         in_time : UpTo last_arrival m.train_count t.arrival
-        in_time = made_in_time (sheet_of m) (outset_of m.order_count o) admitted.0 _ t made
+        in_time = made_in_time (sheet_of m) (outset_of m.order_count o) admitted _ t made
 
 pub load-train-requires : goal.load-train-requires
-load-train-requires c = to_load c.args.sheet.columns c.args.outset c.args.progress (c.args.sheet.admitted, c.requires.sets) c.requires.ended_value.1
+load-train-requires c = to_load c.args.sheet.columns c.args.outset c.args.progress c.args.sheet.admitted c.requires.sets c.requires.ended_value.1
 
 pub time_trains_since-requires : goal.time_trains_since-requires
-time_trains_since-requires c = (
-  c.args.sheet.admitted,
-  loaded_column (sheet_of c.args.sheet.columns) c.load-train.result
-      (rides c.args.sheet.columns c.args.outset c.args.progress (c.args.sheet.admitted, c.requires.sets) c.requires.ended_value.1 c.load-train.result c.load-train.ensures),
-)
+time_trains_since-requires c =
+    loaded_column (sheet_of c.args.sheet.columns) c.load-train.result
+    (rides c.args.sheet.columns c.args.outset c.args.progress c.args.sheet.admitted c.requires.sets c.requires.ended_value.1 c.load-train.result
+    c.load-train.ensures)
 
 pub overflow_add-next : goal.overflow_add-next
 overflow_add-next c =
@@ -91,9 +90,9 @@ worst_of-worst-requires c =
       a.complete.orders,
       in_ranges m a,
       arrives m a c.load-train.result c.in-Some.timed.arrival
-          (loaded_column (sheet_of m) c.load-train.result (rides c.args.sheet.columns c.args.outset c.args.progress (c.args.sheet.admitted, c.requires.sets) b
+          (loaded_column (sheet_of m) c.load-train.result (rides c.args.sheet.columns c.args.outset c.args.progress c.args.sheet.admitted c.requires.sets b
           c.load-train.result c.load-train.ensures))
-          (in_time c.args.sheet.columns c.args.outset c.args.progress (c.args.sheet.admitted, c.requires.sets) b c.load-train.result c.load-train.ensures
+          (in_time c.args.sheet.columns c.args.outset c.args.progress c.args.sheet.admitted c.requires.sets b c.load-train.result c.load-train.ensures
           c.time_trains_since.result c.time_trains_since.ensures
           c.in-Some.timed c.in-Some.is),
     )
@@ -105,7 +104,7 @@ lower-lowered-requires c =
     let b = c.requires.ended_value.1 in (
       in_ranges m a,
       arrives_to m a c.in-Some.timed.arrival c.args.progress.latest
-          (in_time c.args.sheet.columns c.args.outset c.args.progress (c.args.sheet.admitted, c.requires.sets) b c.load-train.result c.load-train.ensures
+          (in_time c.args.sheet.columns c.args.outset c.args.progress c.args.sheet.admitted c.requires.sets b c.load-train.result c.load-train.ensures
           c.time_trains_since.result c.time_trains_since.ensures
           c.in-Some.timed c.in-Some.is)
           b.latest,
@@ -132,7 +131,7 @@ returns-after-worst-next-clause-is c =
     let same_worst = to_z-of_z {w = w64} {z = c.worst_of-worst.result} (record { sfits = c.worst_of-worst.type_inv }) in
     let worst_is = c.worst_of-worst.ensures
     ∙ worst_taken (at m.weight) (at m.due) (take m.order_count train) its.arrival m.train_count m.order_count a.complete.orders
-    (rides m c.args.outset p (c.args.sheet.admitted, c.requires.sets) b train c.load-train.ensures) in
+    (rides m c.args.outset p c.args.sheet.admitted c.requires.sets b train c.load-train.ensures) in
     let last_is = c.last_of-last.ensures
     ∙ sym (get_or-take m.train_count its.arrival (m.train_count - 1) 0 (omega (arith, a.complete.trains))) in
     let r = c.if-worst-next.next in
@@ -159,7 +158,7 @@ returns-after-worst-next-clause-is c =
     let lowered = rw (to_z-of_z {w = w64} left) at c.lower-lowered.ensures
     ∙ lower_taken (at m.weight) (at m.due) its.arrival r.limit latest m.train_count m.order_count low in
     round_made (sheet_of m) (outset_of m.order_count c.args.outset) p _ c.requires.ended_value.0 graded.0 its b.latest c.load-train.ensures
-    (made m c.args.outset p (c.args.sheet.admitted, c.requires.sets) b train c.load-train.ensures _ c.time_trains_since.ensures c.in-Some.timed c.in-Some.is) graded.1
+    (made m c.args.outset p c.args.sheet.admitted c.requires.sets b train c.load-train.ensures _ c.time_trains_since.ensures c.in-Some.timed c.in-Some.is) graded.1
     (lowered, c.is_crowded.ensures)
 
 pub returns-in_default-clause-is : goal.returns-in_default-clause-is
@@ -167,6 +166,6 @@ returns-in_default-clause-is c =
     let b = c.requires.ended_value.1 in
     round_stopped (sheet_of c.args.sheet.columns) (outset_of c.args.sheet.columns.order_count c.args.outset) c.args.progress _ c.requires.ended_value.0 refl
     b.orderly
-    (rw c.in_default.is at (timings c.args.sheet.columns c.args.outset c.args.progress (c.args.sheet.admitted, c.requires.sets) b c.load-train.result c.load-train.ensures
+    (rw c.in_default.is at (timings c.args.sheet.columns c.args.outset c.args.progress c.args.sheet.admitted c.requires.sets b c.load-train.result c.load-train.ensures
     c.time_trains_since.result c.time_trains_since.ensures))
     refl refl refl
