@@ -14,17 +14,12 @@ pub fn fits(progress: Progress, sheet: AdmittedSheet) -> bool
 {
     let n = sheet.columns.order_count;
     let q = sheet.columns.train_count;
+    let release = &sheet.columns.release;
+    let capacity = &sheet.columns.capacity;
     let latest = &progress.latest;
     let train = &progress.train;
     none_above(n, latest, q)
-        && are_orderly(
-            n,
-            q,
-            &sheet.columns.release,
-            &sheet.columns.capacity,
-            latest,
-            train,
-        )
-        && !is_crowded(n, q, sheet.columns.capacity, *latest)
+        && are_orderly(n, q, release, capacity, latest, train)
+        && !is_crowded(n, q, *capacity, *latest)
         && progress.rounds < bound::figure(sheet)
 }

@@ -22,14 +22,8 @@ pub fn round_from(progress: Progress, sheet: AdmittedSheet, outset: Outset) -> P
     let q = sheet.columns.train_count;
     let capacity = outset.capacity;
     let latest = progress.latest;
-    let train = loading::load(
-        n,
-        q,
-        &sheet.columns.release,
-        capacity,
-        &latest,
-        progress.train,
-    );
+    let release = &sheet.columns.release;
+    let train = loading::load(n, q, release, capacity, &latest, progress.train);
     let mut next = Progress {
         recorded: None,
         rounds: progress.rounds + 1,
