@@ -13,8 +13,8 @@ ghost use Rattle.planner.specs.Outcome.{choice_so};
 ghost use Rattle.planner.specs.Choosing.{ChoosingCall};
 
 use borders::AnySheet;
-use model::{PlanPair, Refusal};
 use model::admitted::AdmittedSheet;
+use model::{PlanPair, Refusal};
 use recording::{put_times, put_trains};
 use search::Outset;
 use search::round::round_from;

@@ -12,8 +12,8 @@ ghost use Rattle.planner.specs.Outcome.{listed_so};
 ghost use Rattle.planner.specs.Listing.{ListingCall};
 
 use borders::AnySheet;
-use model::{Listed, Refusal};
 use model::admitted::AdmittedSheet;
+use model::{Listed, Refusal};
 use recording::list_pair;
 use search::Outset;
 use search::round::round_from;

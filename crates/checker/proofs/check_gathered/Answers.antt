@@ -23,7 +23,7 @@ returns-in_err-pair g c rows e =
     let p = err_from_is_err_and c.from_residual-in_err-pair.result c.from_residual-in_err-pair.ensures.1 in
     rw (← c.to_sheet.ensures, ← c.in_ok-sheet.ensures.same, p.1, p.2)
     (checking_call s a.departures.now rows _ a.pairs.now a.pairs.now
-    (told_broken s a.departures.now rows a.pairs.now _ (rw ← c.in_ok-sheet.ensures.same at c.in_ok-sheet.ensures.tests) refl _
+    (told_broken s a.departures.now rows a.pairs.now _ (rw (← c.in_ok-sheet.ensures.same) at c.in_ok-sheet.ensures.tests) refl _
     (sym (c.judge.ensures rows e) ∙ c.in_err-pair.was)))
 
 pub beside-requires : goal.beside-requires
@@ -36,6 +36,6 @@ returns g c rows e =
     let l = c.list-reply in
     rw (← c.to_sheet.ensures, ← c.in_ok-sheet.ensures.same)
     (checking_call s a.departures.now rows _ _ a.pairs.now
-    (told_kept s a.departures.now rows a.pairs.now _ (rw ← c.in_ok-sheet.ensures.same at c.in_ok-sheet.ensures.tests) refl
+    (told_kept s a.departures.now rows a.pairs.now _ (rw (← c.in_ok-sheet.ensures.same) at c.in_ok-sheet.ensures.tests) refl
     (record { last = c.in_ok-pair.pair.last; worst = c.in_ok-pair.pair.worst }) (sym (c.judge.ensures rows e) ∙ c.in_ok-pair.was) _ _ l.ensures.equal _
     c.beside.ensures))

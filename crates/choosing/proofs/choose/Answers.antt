@@ -24,7 +24,7 @@ pub choose_from-requires-clause-room : goal.choose_from-requires-clause-room
 choose_from-requires-clause-room g c =
     let s = sheet_of c.in_ok-sheet.sheet.columns in
     has_room s (decides_plan_room s (areas c.args.train_of_order.now c.args.times.now)) _
-    (rw ← c.in_ok-sheet.ensures.same at c.in_ok-sheet.ensures.tests) refl
+    (rw (← c.in_ok-sheet.ensures.same) at c.in_ok-sheet.ensures.tests) refl
 
 pub choose_from-requires-clause-sets : goal.choose_from-requires-clause-sets
 choose_from-requires-clause-sets g c =
@@ -37,5 +37,5 @@ returns g c =
     let found = areas c.args.train_of_order.now c.args.times.now in
     rw (← c.to_sheet.ensures, ← c.in_ok-sheet.ensures.same)
     (choosing_call s c.args.wish _ _ found
-    (told_rounds s c.args.wish found _ (rw ← c.in_ok-sheet.ensures.same at c.in_ok-sheet.ensures.tests) refl _ _
+    (told_rounds s c.args.wish found _ (rw (← c.in_ok-sheet.ensures.same) at c.in_ok-sheet.ensures.tests) refl _ _
     (told_as (ap (λ (o : Outset). choose_from s o c.args.wish) c.ordinary.ensures) c.choose_from.ensures)))

@@ -21,7 +21,7 @@ returns-in_err-sheet g c =
 pub list_from-requires-clause-room : goal.list_from-requires-clause-room
 list_from-requires-clause-room g c =
     let s = sheet_of c.in_ok-sheet.sheet.columns in
-    has_room s (decides_list_room s c.args.pairs.now) _ (rw ← c.in_ok-sheet.ensures.same at c.in_ok-sheet.ensures.tests) refl
+    has_room s (decides_list_room s c.args.pairs.now) _ (rw (← c.in_ok-sheet.ensures.same) at c.in_ok-sheet.ensures.tests) refl
 
 pub list_from-requires-clause-sets : goal.list_from-requires-clause-sets
 list_from-requires-clause-sets g c =
@@ -33,5 +33,5 @@ returns g c =
     let s = sheet_of c.in_ok-sheet.sheet.columns in
     rw (← c.to_sheet.ensures, ← c.in_ok-sheet.ensures.same)
     (listing_call s _ _ c.args.pairs.now
-    (told_rounds s c.args.pairs.now _ (rw ← c.in_ok-sheet.ensures.same at c.in_ok-sheet.ensures.tests) refl _ _
+    (told_rounds s c.args.pairs.now _ (rw (← c.in_ok-sheet.ensures.same) at c.in_ok-sheet.ensures.tests) refl _ _
     (told_as (ap (list_from s) c.ordinary.ensures) c.list_from.ensures)))

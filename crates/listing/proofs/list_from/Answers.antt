@@ -41,28 +41,28 @@ loop-progress-init c =
     let s = sheet_of c.args.sheet.columns in
     let o = outset_of c.args.sheet.columns.order_count c.args.outset in
     let p = c.start_from-progress.result in
-    let (running, none, zero) = begun s o p (c.start_from-progress.ensures s c.args.sheet.columns.admitted.few) in
+    let (running, none, zero) = begun s o p (c.start_from-progress.ensures s c.args.sheet.admitted.few) in
     (running, list_begun s o p c.args.pairs.now running none, omega arith, refl)
 
 pub round_from-progress-requires-clause-ended_value : goal.round_from-progress-requires-clause-ended_value
 round_from-progress-requires-clause-ended_value c = (
   c.loop-progress-test.true,
-  can_go_on (sheet_of c.args.sheet.columns) (aim c.args.sheet.columns c.args.outset c.args.sheet.columns.admitted c.requires.sets) c.loop-progress.progress
+  can_go_on (sheet_of c.args.sheet.columns) (aim c.args.sheet.columns c.args.outset c.args.sheet.admitted c.requires.sets) c.loop-progress.progress
       c.loop-progress.invariant.0 c.loop-progress-test.true,
 )
 
 pub list_pair-count-requires : goal.list_pair-count-requires
 list_pair-count-requires c =
-    let few = bound_most (sheet_of c.args.sheet.columns) c.args.sheet.columns.admitted in
+    let few = bound_most (sheet_of c.args.sheet.columns) c.args.sheet.admitted in
     let v = c.loop-progress.invariant in
-    let left = within c.args.sheet.columns c.args.outset c.args.sheet.columns.admitted c.requires.sets c.loop-progress.progress v.0 c.loop-progress-test.true in
+    let left = within c.args.sheet.columns c.args.outset c.args.sheet.admitted c.requires.sets c.loop-progress.progress v.0 c.loop-progress-test.true in
     (omega (arith, left, c.requires.room, v.2, v.3), omega (arith, left, v.2, few))
 
 pub loop-progress-smaller-then-is_some : goal.loop-progress-smaller-then-is_some
 loop-progress-smaller-then-is_some c =
     omega (
       arith,
-      within c.args.sheet.columns c.args.outset c.args.sheet.columns.admitted c.requires.sets c.loop-progress.progress c.loop-progress.invariant.0
+      within c.args.sheet.columns c.args.outset c.args.sheet.admitted c.requires.sets c.loop-progress.progress c.loop-progress.invariant.0
           c.loop-progress-test.true,
       c.round_from-progress.ensures.counts,
     )
@@ -89,7 +89,7 @@ pub loop-progress-smaller : goal.loop-progress-smaller
 loop-progress-smaller c =
     omega (
       arith,
-      within c.args.sheet.columns c.args.outset c.args.sheet.columns.admitted c.requires.sets c.loop-progress.progress c.loop-progress.invariant.0
+      within c.args.sheet.columns c.args.outset c.args.sheet.admitted c.requires.sets c.loop-progress.progress c.loop-progress.invariant.0
           c.loop-progress-test.true,
       c.round_from-progress.ensures.counts,
     )
@@ -112,5 +112,5 @@ loop-progress-preserved c =
 pub returns : goal.returns
 returns c =
     rw c.listed.ensures
-    (list_ended (sheet_of c.args.sheet.columns) (aim c.args.sheet.columns c.args.outset c.args.sheet.columns.admitted c.requires.sets) c.loop-progress.progress
+    (list_ended (sheet_of c.args.sheet.columns) (aim c.args.sheet.columns c.args.outset c.args.sheet.admitted c.requires.sets) c.loop-progress.progress
     c.loop-progress.count c.loop-progress.pairs c.args.pairs.now c.loop-progress.invariant.0 c.loop-progress-test.false c.loop-progress.invariant.1)

@@ -23,19 +23,19 @@ returns-in_err-outset c rows e =
     let p = err_from_is_err_and c.from_residual-in_err-outset.result c.from_residual-in_err-outset.ensures.1 in
     rw (← c.in_ok-sheet.ensures.same, p.1, p.2)
     (choice_gone m (gone_part a.departures.now rows a.minute) a.wish (areas a.train_of_order.now a.times.now) _
-    (rw ← c.in_ok-sheet.ensures.same at c.in_ok-sheet.ensures.tests) refl c.set_out.result (c.set_out.ensures.is rows e) _ c.in_err-outset.was)
+    (rw (← c.in_ok-sheet.ensures.same) at c.in_ok-sheet.ensures.tests) refl c.set_out.result (c.set_out.ensures.is rows e) _ c.in_err-outset.was)
 
 pub choose_from-requires-clause-room : goal.choose_from-requires-clause-room
 choose_from-requires-clause-room c =
     let a = c.args in
     let s = sheet_of c.in_ok-sheet.sheet.columns in
-    has_room s (decides_plan_room s (areas a.train_of_order.now a.times.now)) _ (rw ← c.in_ok-sheet.ensures.same at c.in_ok-sheet.ensures.tests) refl
+    has_room s (decides_plan_room s (areas a.train_of_order.now a.times.now)) _ (rw (← c.in_ok-sheet.ensures.same) at c.in_ok-sheet.ensures.tests) refl
 
 pub returns : goal.returns
 returns c rows e =
     let a = c.args in
     let m = c.in_ok-sheet.sheet.columns in
-    rw ← c.in_ok-sheet.ensures.same
+    rw (← c.in_ok-sheet.ensures.same)
     (choice_rounds m (gone_part a.departures.now rows a.minute) a.wish (areas a.train_of_order.now a.times.now) _
-    (rw ← c.in_ok-sheet.ensures.same at c.in_ok-sheet.ensures.tests) refl c.set_out.result (c.set_out.ensures.is rows e) _ c.in_ok-outset.was _ _
+    (rw (← c.in_ok-sheet.ensures.same) at c.in_ok-sheet.ensures.tests) refl c.set_out.result (c.set_out.ensures.is rows e) _ c.in_ok-outset.was _ _
     c.choose_from.ensures)
