@@ -12,7 +12,7 @@ use model::Sheet;
 pub fn fits(state: State, sheet: Sheet, pairs: usize, trains: usize, times: usize) -> bool
     ensures { Decides (Fits (sheet_of sheet) state pairs trains times) result }
 {
-    let Ok(()) = room::for_search(sheet, pairs, trains, times) else {
+    let Ok(sheet) = room::for_search(sheet, pairs, trains, times) else {
         return false;
     };
     let most = bound::figure(sheet);

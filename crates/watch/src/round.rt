@@ -10,20 +10,21 @@ use crate::fit::fits;
 use crate::keeping::{keep, resume, said};
 use crate::{Moved, State};
 use borders::AnySheet;
-use model::{RoundReply, Sheet};
+use model::RoundReply;
+use model::admitted::AdmittedSheet;
 use recording::{list_pair, put_times, put_trains};
 
 // Makes one round of a search that goes on. A better plan's pair is listed, and the plan is written over the one before.
 fn advance(
     state: State,
-    sheet: Sheet,
+    sheet: AdmittedSheet,
     pairs: &mut [i64],
     train_of_order: &mut [u8],
     times: &mut [u32],
 ) -> State
-    requires fits { Fits (sheet_of sheet) state (length pairs.old) (length train_of_order.old) (length times.old) }
+    requires fits { Fits (sheet_of sheet.columns) state (length pairs.old) (length train_of_order.old) (length times.old) }
     requires ended_value { state.ended ≡ 0 }
-    ensures { Advanced (sheet_of sheet) state result (all_areas pairs.new train_of_order.new times.new)
+    ensures { Advanced (sheet_of sheet.columns) state result (all_areas pairs.new train_of_order.new times.new)
         (all_areas pairs.old train_of_order.old times.old) }
 {
     let progress = search::round::round(resume(state), sheet);
@@ -37,12 +38,12 @@ fn advance(
         progress.last,
         progress.limit,
     );
-    put_trains(progress.train, sheet.order_count, train_of_order);
+    put_trains(progress.train, sheet.columns.order_count, train_of_order);
     put_times(
         timed.departure,
         timed.arrival,
         timed.window,
-        sheet.train_count,
+        sheet.columns.train_count,
         times,
     );
     keep(progress, count)
@@ -76,6 +77,7 @@ pub fn round<S: AnySheet>(
             reply: said(state),
         };
     }
+    let sheet = AdmittedSheet { columns: sheet };
     let next = advance(state, sheet, pairs, train_of_order, times);
     Moved {
         state: next,

@@ -17,7 +17,11 @@ pub fn start<S: AnySheet>(
 ) -> Result<State, Refusal>
     ensures { StartCall (S.meant sheet) (all_areas pairs.now train_of_order.now times.now) result }
 {
-    let sheet = sheet.to_sheet();
-    room::for_search(sheet, pairs.len(), train_of_order.len(), times.len())?;
+    let sheet = room::for_search(
+        sheet.to_sheet(),
+        pairs.len(),
+        train_of_order.len(),
+        times.len(),
+    )?;
     Ok(keep(start_search(sheet), 0))
 }

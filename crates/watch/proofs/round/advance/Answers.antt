@@ -17,7 +17,7 @@ has_room s found e = test_means (decides_search_room s found) e
 pub returns-in_default : goal.returns-in_default
 returns-in_default c =
     let a = c.args in
-    let s = sheet_of a.sheet in
+    let s = sheet_of a.sheet.columns in
     let found = all_areas a.pairs.now a.train_of_order.now a.times.now in
     let fits = c.requires.fits in
     let room : SearchRoom s found = has_room s found fits.room in
@@ -32,7 +32,7 @@ returns-in_default c =
 pub list_pair-count-requires : goal.list_pair-count-requires
 list_pair-count-requires c =
     let a = c.args in
-    let s = sheet_of a.sheet in
+    let s = sheet_of a.sheet.columns in
     let found = all_areas a.pairs.now a.train_of_order.now a.times.now in
     let fits = c.requires.fits in
     let room : SearchRoom s found = has_room s found fits.room in
@@ -42,7 +42,7 @@ list_pair-count-requires c =
 pub returns : goal.returns
 returns c =
     let a = c.args in
-    let s = sheet_of a.sheet in
+    let s = sheet_of a.sheet.columns in
     let found = all_areas a.pairs.now a.train_of_order.now a.times.now in
     let fits = c.requires.fits in
     let room : SearchRoom s found = has_room s found fits.room in
