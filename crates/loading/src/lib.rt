@@ -97,6 +97,7 @@ fn needs_turn(
     ensures { result ≡ needed waiting riders places held low top challenger i }
 {
     let short = riders < places;
+    // `&` and `|`, without a branch: each train of each round is asked
     (short & (held == places)) | (((waiting > 0) & (i <= top)) & (short | (low < challenger)))
 }
 

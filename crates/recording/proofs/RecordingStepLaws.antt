@@ -1,5 +1,5 @@
 -- Laws of listing a pair and of writing a plan. Assumes nothing.
-use Rattle.std.specs.Prelude.{◌≡◌, refl, ◌⊎◌, cond, List, [], ◌∷◌, ◌++◌, eqb, ℤ, pos, length, set, take, drop}
+use Rattle.std.specs.Prelude.{◌≡◌, refl, ◌⊎◌, List, [], ◌∷◌, ◌++◌, ℤ, pos, length, set, take, drop}
 use Rattle.std.proofs.Common.{sym, ap, ◌∙◌, subst, inl, inr, add-one, length-append, length-drop, eq-eqb, ne_eqb}
 use Prim.Native.Nat.{ℕ, zero, suc, ◌+◌, ◌*◌, ◌-◌, ◌≤◌, ◌<◌}
 use native.Mathlib.Omega.{arith}
@@ -28,15 +28,6 @@ pub place_behind : (k last arrival : ℕ) → ¬ ((0 < k) × (last ≡ arrival))
 unfolding place
 place_behind zero last arrival h = refl
 place_behind (suc k) last arrival h = simp (ne_eqb last arrival (λ e. h (omega arith, e)))
-
-pub place_most : (k last arrival : ℕ) → place k last arrival ≤ k
-unfolding place
-place_most zero last arrival = omega arith
-place_most (suc k) last arrival = go (decided (decides_eq last arrival))
-  where
-    go : (last ≡ arrival) ⊎ (¬ (last ≡ arrival)) → cond (eqb last arrival) k (suc k) ≤ suc k
-    go (inl e) = rw (eq-eqb last arrival e) (omega arith)
-    go (inr e) = rw (ne_eqb last arrival e) (omega arith)
 
 -- ---- the pairs area once the pair p is written in its place
 
