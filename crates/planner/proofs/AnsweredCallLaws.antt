@@ -53,7 +53,7 @@ module _ (s : Sheet) (x : Answer Listing) (found : List ℤ) where
         go (given l) u v =
             let (granted, is) = accepted s (list_room s (length found)) x u in
             let (many, made) =
-                same_listed (record { pairs = pairs; rounds = rounds }) (record { pairs = length l.pairs; rounds = l.rounds }) (sym e ∙ v) in
+            same_listed (record { pairs = pairs; rounds = rounds }) (record { pairs = length l.pairs; rounds = l.rounds }) (sym e ∙ v) in
             let written = over (pair_numbers l.pairs) found in
             let here : left ≡ written = told.areas_left ∙ ap (λ (y : Answer Listing). list_left y found) u in
             record {
@@ -100,7 +100,7 @@ module _ (s : Sheet) (x : Answer Entry) (found : PlanAreas) where
         go (refused f) u v = absurd (let z : ◌≡◌ {A = ℕ} 0 1 = cc in omega arith)
         go (given e) u v =
             let (last, worst) =
-                same_chosen (record { last = e.pair.last; worst = e.pair.worst }) (record { last = p.last; worst = p.worst }) (sym v ∙ g) in
+            same_chosen (record { last = e.pair.last; worst = e.pair.worst }) (record { last = p.last; worst = p.worst }) (sym v ∙ g) in
             let (granted, is) = accepted s (plan_room s (length found.trains) (length found.times)) x u in
             let a = (passed s (plan_room s (length found.trains) (length found.times)) granted).0 in
             let here : left ≡ plan_left s (given e) found = told.areas_left ∙ ap (λ (y : Answer Entry). plan_left s y found) u in

@@ -10,8 +10,8 @@ ghost use Rattle.model.specs.declared.Refusal.TheVariants as cause;
 ghost use Rattle.rounds.specs.Areas.{list_room, plan_room, tested};
 ghost use Rattle.rounds.specs.ByRound.{search_room};
 
-use model::limits::{NUMBERS_A_PAIR, NUMBERS_A_TRAIN};
 use model::admitted::AdmittedSheet;
+use model::limits::{NUMBERS_A_PAIR, NUMBERS_A_TRAIN};
 use model::{Refusal, Sheet};
 
 // Whether the pairs area has room for as many pairs as the sheet's figure.
@@ -63,7 +63,12 @@ pub fn for_choosing(sheet: Sheet, trains: usize, times: usize) -> Result<Admitte
 }
 
 // For a search by rounds, which fills all three.
-pub fn for_search(sheet: Sheet, pairs: usize, trains: usize, times: usize) -> Result<AdmittedSheet, Refusal>
+pub fn for_search(
+    sheet: Sheet,
+    pairs: usize,
+    trains: usize,
+    times: usize,
+) -> Result<AdmittedSheet, Refusal>
     ensures tests { of_reply result ≡ tested (sheet_of sheet) (search_room (sheet_of sheet) pairs trains times) }
     ensures same { IfOk result (λ a. a.columns ≡ sheet) }
 {

@@ -5,9 +5,9 @@ ghost use Rattle.model.specs.Memory.{sheet_of};
 ghost use Rattle.model.specs.Limits.{train_counts, window_counts};
 ghost use Rattle.model.specs.ScheduleTest.{allowed};
 
-use model::limits::{MOST_TRAINS, MOST_WINDOWS};
 use model::Form;
 use model::admitted::AdmittedSheet;
+use model::limits::{MOST_TRAINS, MOST_WINDOWS};
 
 // Whether instant t lies in one of v windows, both ends included.
 fn is_open(from: &[u32; MOST_WINDOWS], to: &[u32; MOST_WINDOWS], v: usize, t: u32) -> bool

@@ -66,7 +66,11 @@ pub fn are_released(
 }
 
 // Whether the orders, each on a train, and the departures are a schedule.
-pub fn is_schedule(sheet: AdmittedSheet, train: [u8; MOST_ORDERS], departure: [u32; MOST_TRAINS]) -> bool
+pub fn is_schedule(
+    sheet: AdmittedSheet,
+    train: [u8; MOST_ORDERS],
+    departure: [u32; MOST_TRAINS],
+) -> bool
     requires { Loaded (sheet_of sheet.columns) train }
     ensures { result ≡ is_schedule_of (sheet_of sheet.columns) (take sheet.columns.order_count train) (take sheet.columns.train_count departure) }
 {

@@ -12,7 +12,11 @@ use model::admitted::AdmittedSheet;
 use model::limits::{MOST_ORDERS, MOST_TRAINS};
 
 // The last arrival, by the model's rule, and the greatest weighted lateness of a schedule in columns.
-pub fn pair_of(sheet: AdmittedSheet, train: [u8; MOST_ORDERS], departure: [u32; MOST_TRAINS]) -> PlanPair
+pub fn pair_of(
+    sheet: AdmittedSheet,
+    train: [u8; MOST_ORDERS],
+    departure: [u32; MOST_TRAINS],
+) -> PlanPair
     requires { Schedule (sheet_of sheet.columns) (take sheet.columns.order_count train) (take sheet.columns.train_count departure) }
     ensures { pair_told result ≡ pair_of (sheet_of sheet.columns) (take sheet.columns.order_count train) (take sheet.columns.train_count departure) }
 {

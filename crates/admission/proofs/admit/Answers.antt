@@ -44,15 +44,15 @@ returns-in_err-first_refusal-clause-tests c =
     rw (p.1, p.2)
     (sym c.in_err-first_refusal.was
     ∙ said _ c.few.ensures c.if-not-few.false c.complete-complete.ensures c.in_range-in_range.ensures c.in_order-in_order.ensures c.roomy-roomy.ensures
-      c.first_refusal.ensures)
+    c.first_refusal.ensures)
 
 pub invariant_of-result : goal.invariant_of-result
 invariant_of-result c =
     record {
       admitted = (admitted_means _).0
           (sym
-            (said _ c.few.ensures c.if-not-few.false c.complete-complete.ensures c.in_range-in_range.ensures c.in_order-in_order.ensures
-              c.roomy-roomy.ensures c.first_refusal.ensures)
+          (said _ c.few.ensures c.if-not-few.false c.complete-complete.ensures c.in_range-in_range.ensures c.in_order-in_order.ensures
+          c.roomy-roomy.ensures c.first_refusal.ensures)
           ∙ c.in_ok-first_refusal.was);
     }
 
@@ -60,4 +60,4 @@ pub returns-clause-tests : goal.returns-clause-tests
 returns-clause-tests c =
     sym c.in_ok-first_refusal.was
     ∙ said _ c.few.ensures c.if-not-few.false c.complete-complete.ensures c.in_range-in_range.ensures c.in_order-in_order.ensures c.roomy-roomy.ensures
-      c.first_refusal.ensures
+    c.first_refusal.ensures
