@@ -126,5 +126,6 @@ module _ (m : memory.Sheet) (a : Admitted (sheet_of m)) (departure : List ℕ) (
         record {
           is = ap of_reply u ∙ rw (← e, some);
           columns = λ o w. let same : c ≡ o = cc in rw (← same) agrees;
-          sets = λ o w. let same : c ≡ o = cc in rw (← same) (sets_behind m a departure rows minute column departs well.remains fits c long (rw is at b) well room);
+          sets = λ o w. let same : c ≡ o = cc in rw (← same) (sets_behind m a departure rows minute column departs well.remains fits c long (rw is at
+              b) well room);
         }

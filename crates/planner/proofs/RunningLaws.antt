@@ -58,7 +58,8 @@ module _ (s : Sheet) (o : Outset) where
 
   -- a better plan is listed, another is not
   pub list_better : (p r : Progress) (t : Times) (count more : ℕ) (area after found : List ℤ)
-      → recorded_now_from s o r ≡ record_entry (recorded_now_from s o p) (shown_entry s r t) → Lists found (held_list count p.last area) (recorded_now_from s o p)
+      → recorded_now_from s o r ≡ record_entry (recorded_now_from s o p) (shown_entry s r t) → Lists found (held_list count p.last area)
+      (recorded_now_from s o p)
       → ListsMore (held_list count p.last area) (held_list more r.last after) r.last r.limit
       → Lists found (held_list more r.last after) (recorded_now_from s o r)
   list_better p r t count more area after found is h lists = rw is (lists found (recorded_now_from s o p) (shown_entry s r t) refl h)

@@ -47,7 +47,10 @@ module _ (m : memory.Sheet) (g : Gone) where
       unfolding relist list_reply list_left
       list_gone f u =
           then (Err f) lent
-          (told_as {x = refused f} (sym (gone_refused s g (list_from s (behind s g)) f (sym out.is ∙ ap of_reply u))) (record { replied = refl; areas_left = refl }))
+          (told_as {x = refused f} (sym (gone_refused s g (list_from s (behind s g)) f (sym out.is ∙ ap of_reply u))) (record {
+            replied = refl;
+            areas_left = refl;
+          }))
 
       pub list_rounds : (o : Outset) → ready ≡ Ok o → (r : ListReply) (left : List ℤ)
           → ListTold (list_from s (outset_of m.order_count o)) r left lent → RelistingCall s g r left lent

@@ -43,8 +43,11 @@ loop-progress-init c =
 pub round_from-progress-requires-clause-ended_value : goal.round_from-progress-requires-clause-ended_value
 round_from-progress-requires-clause-ended_value c =
     let p = c.loop-progress.progress in
-    let on = not_yet p.ended (both p.last c.args.wish (not p.ended) c.loop-progress-test.true).0 in
-    (on, can_go_on (sheet_of c.args.sheet.columns) (aim c.args.sheet.columns c.args.outset c.args.sheet.admitted c.requires.sets) p c.loop-progress.invariant.0 on)
+    let on = not_yet p.ended (both p.last c.args.wish (not p.ended) c.loop-progress-test.true).0 in (
+      on,
+      can_go_on (sheet_of c.args.sheet.columns) (aim c.args.sheet.columns c.args.outset c.args.sheet.admitted c.requires.sets) p
+          c.loop-progress.invariant.0 on,
+    )
 
 pub loop-progress-smaller-then-progress-wish : goal.loop-progress-smaller-then-progress-wish
 loop-progress-smaller-then-progress-wish c =

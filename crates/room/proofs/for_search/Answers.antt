@@ -19,7 +19,10 @@ pub returns-in_err-with_room-clause-tests : goal.returns-in_err-with_room-clause
 returns-in_err-with_room-clause-tests c =
     let p = err_from_is_err_and c.from_residual-in_err-with_room.result c.from_residual-in_err-with_room.ensures.1 in
     let same = ap (λ (m : Sheet). search_room (sheet_of m) c.args.pairs c.args.trains c.args.times) c.in_ok-sheet.ensures.same in
-    rw (p.1, p.2) (sym c.in_err-with_room.was ∙ tested_room _ c.in_ok-sheet.ensures.tests c.with_room.ensures ((rw (c.holds_pairs.ensures, c.holds_plan.ensures)) ∙ same))
+    rw (p.1, p.2) (sym c.in_err-with_room.was ∙ tested_room _ c.in_ok-sheet.ensures.tests c.with_room.ensures ((rw (
+      c.holds_pairs.ensures,
+      c.holds_plan.ensures,
+    )) ∙ same))
 
 pub returns-clause-tests : goal.returns-clause-tests
 returns-clause-tests c =

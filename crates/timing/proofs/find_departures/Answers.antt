@@ -81,7 +81,8 @@ returns-clause-is c =
     let t = max l.t (at s.released l.i) in
     let awaited : t ≡ earliest w.gap (take l.i l.departure) l.i (nth s.released (suc l.i)) = rw (nth_at s.released l.i) inv.3 in
     ap (departed_in q) c.then_some.ensures
-    ∙ elim (one_at_end l.i q l.m _ c.loop-i-test.false inv.0.0 inv.0.1) as (λ _. departed_in q (told leaving l.i q) ≡ departures (windows_of w) (nth s.released) q) [
+    ∙ elim (one_at_end l.i q l.m _ c.loop-i-test.false inv.0.0 inv.0.1) as (λ _. departed_in q (told leaving l.i q) ≡ departures (windows_of w) (nth
+    s.released) q) [
       | inl e ↦ all_left leaving l.i q e ∙ sym (rw e at inv.2)
       | inr h ↦
           some_never leaving l.i q h.0

@@ -11,7 +11,8 @@ use Rattle.gone.proofs.well.went_well.Goals as goal
 pub returns-then-sheet-gone-clause-is : goal.returns-then-sheet-gone-clause-is
 returns-then-sheet-gone-clause-is c rows e =
     let a = c.args in
-    none_remains (sheet_of a.sheet.columns) c.args.sheet.admitted.few.orders c.args.sheet.admitted.few.trains a.departures.now rows a.minute c.if-sheet-gone.true
+    none_remains (sheet_of a.sheet.columns) c.args.sheet.admitted.few.orders c.args.sheet.admitted.few.trains a.departures.now rows a.minute
+    c.if-sheet-gone.true
 
 pub returns-then-not-within-clause-is : goal.returns-then-not-within-clause-is
 returns-then-not-within-clause-is c rows e =
@@ -35,11 +36,13 @@ are_released-released-requires c =
 pub returns-clause-is : goal.returns-clause-is
 returns-clause-is c rows e =
     let a = c.args in
-    well_given (sheet_of a.sheet.columns) c.args.sheet.admitted.few.orders c.args.sheet.admitted.few.trains a.departures.now rows a.minute (omega arith) a.given e
+    well_given (sheet_of a.sheet.columns) c.args.sheet.admitted.few.orders c.args.sheet.admitted.few.trains a.departures.now rows a.minute (omega
+    arith) a.given e
     (sym c.if-not-within.ensures) c.column_of-departure.result c.column_of-departure.ensures _ _ _ _ c.have_room-room.ensures
     c.are_released-released.ensures c.first_are_allowed-allowed.ensures c.none_above-left.ensures
 
 pub returns-clause-gathered : goal.returns-clause-gathered
 returns-clause-gathered c u =
     let a = c.args in
-    some_rows a.sheet.columns.order_count (length a.departures.now) a.given (omega (arith, c.args.sheet.admitted.few.trains)) (search rules) (sym c.if-not-within.ensures)
+    some_rows a.sheet.columns.order_count (length a.departures.now) a.given (omega (arith, c.args.sheet.admitted.few.trains)) (search rules) (sym
+    c.if-not-within.ensures)

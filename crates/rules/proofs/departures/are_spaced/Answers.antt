@@ -9,5 +9,8 @@ loop-i-init c = (omega arith, every_start _)
 
 pub loop-i-preserved : goal.loop-i-preserved
 loop-i-preserved c =
-    let inv = c.loop-i.invariant in
-    (omega arith, rw (c.from-in-loop-i.ensures, c.from-in-loop-i-2.ensures, c.from.ensures, inv.1) (spaced_more c.args.gap c.args.departure c.loop-i.i (omega arith)))
+    let inv = c.loop-i.invariant in (
+      omega arith,
+      rw (c.from-in-loop-i.ensures, c.from-in-loop-i-2.ensures, c.from.ensures, inv.1) (spaced_more c.args.gap c.args.departure c.loop-i.i
+          (omega arith)),
+    )

@@ -158,7 +158,8 @@ returns-after-worst-next-clause-is c =
     let lowered = rw (to_z-of_z {w = w64} left) at c.lower-lowered.ensures
     ∙ lower_taken (at m.weight) (at m.due) its.arrival r.limit latest m.train_count m.order_count low in
     round_made (sheet_of m) (outset_of m.order_count c.args.outset) p _ c.requires.ended_value.0 graded.0 its b.latest c.load-train.ensures
-    (made m c.args.outset p c.args.sheet.admitted c.requires.sets b train c.load-train.ensures _ c.time_trains_since.ensures c.in-Some.timed c.in-Some.is) graded.1
+    (made m c.args.outset p c.args.sheet.admitted c.requires.sets b train c.load-train.ensures _ c.time_trains_since.ensures c.in-Some.timed
+    c.in-Some.is) graded.1
     (lowered, c.is_crowded.ensures)
 
 pub returns-in_default-clause-is : goal.returns-in_default-clause-is
@@ -166,6 +167,7 @@ returns-in_default-clause-is c =
     let b = c.requires.ended_value.1 in
     round_stopped (sheet_of c.args.sheet.columns) (outset_of c.args.sheet.columns.order_count c.args.outset) c.args.progress _ c.requires.ended_value.0 refl
     b.orderly
-    (rw c.in_default.is at (timings c.args.sheet.columns c.args.outset c.args.progress c.args.sheet.admitted c.requires.sets b c.load-train.result c.load-train.ensures
+    (rw c.in_default.is at (timings c.args.sheet.columns c.args.outset c.args.progress c.args.sheet.admitted c.requires.sets b c.load-train.result
+    c.load-train.ensures
     c.time_trains_since.result c.time_trains_since.ensures))
     refl refl refl

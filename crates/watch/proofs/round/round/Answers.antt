@@ -9,7 +9,8 @@ pub returns-then-not-fits : goal.returns-then-not-fits
 returns-then-not-fits g c =
     let a = c.args in
     rw (← c.to_sheet-sheet.ensures)
-    (round_none (sheet_of c.to_sheet-sheet.result) a.state (all_areas a.pairs.now a.train_of_order.now a.times.now) (test_fails c.fits.ensures c.if-not-fits.true))
+    (round_none (sheet_of c.to_sheet-sheet.result) a.state (all_areas a.pairs.now a.train_of_order.now a.times.now) (test_fails c.fits.ensures
+    c.if-not-fits.true))
 
 pub returns-then-state-ne0 : goal.returns-then-state-ne0
 returns-then-state-ne0 g c =
