@@ -96,7 +96,7 @@ by_hand = r'larger|smaller|one_of|waited_for|size_of|from_windows|from_timetable
 report('4a', 'comparisons and conversions by hand', [f'{f.where} {f.name}' for f in functions if re.fullmatch(by_hand, f.name)])
 report('4b', 'equality as two comparisons', [f'{w} {x.strip()}' for w, x in lines if re.search(r'\((\w+) <= (\w+)\) & \(\2 <= \1\)', x)])
 report('4c', 'bytes as numbers', [f'{w} {x.strip()}' for w, x in lines if re.search(r'(?<![\w.])(44|45|48|57|65|68|69|76|80|82|88|90|10)\)|== (10|44|45|48|88)\b|48 \+|- 48\b', x)
-                                  and re.search(r'put|in_range|==|48', x)])
+                                  and re.search(r'put\(|in_range|==|48', x)])
 
 # ---- 5
 
@@ -118,7 +118,7 @@ report('6b', 'functions of a whole array and how much of it counts', [f'{f.where
 
 # ---- 7
 
-report('7', 'matches on the form', [f'{w} {x.strip()}' for w, x in lines if re.search(r'match (sheet\.)?form\b', x)])
+report('7', 'matches on the form', [f'{w} {x.strip()}' for w, x in lines if re.search(r'match (sheet\.)?(columns\.)?form\b', x)])
 
 # ---- 8
 

@@ -50,6 +50,7 @@ pub fn choose_from(
 {
     let mut progress = start_from(outset);
     let mut choice = Err(Refusal::NoSchedule);
+    // a while: how many rounds come is known as the search ends
     while !progress.ended & (progress.last <= wish) {
         progress = round_from(progress, sheet, outset);
         if let Some(timed) = progress.recorded {

@@ -10,6 +10,8 @@ use model::limits::{MOST_ORDERS, MOST_TRAINS};
 use rules::carried;
 use search::Outset;
 
+// Three fills and no generic one: their columns have elements of two sizes, and an array of a type parameter cannot be gone through.
+
 // The places: a gone train has them for its own orders only.
 fn places_behind(
     n: usize,

@@ -35,6 +35,7 @@ pub fn list_from(sheet: AdmittedSheet, outset: Outset, pairs: &mut [i64]) -> Res
 {
     let mut progress = start_from(outset);
     let mut count: usize = 0;
+    // a while: how many rounds come is known as the search ends
     while !progress.ended {
         let before = progress.last;
         progress = round_from(progress, sheet, outset);

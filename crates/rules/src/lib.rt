@@ -28,7 +28,7 @@ pub fn carried(train: &[u8; MOST_ORDERS], n: usize, i: u8) -> u32
     orders
 }
 
-// Whether none of q trains carries more of n orders than it has places.
+// Whether none of q trains carries more of n orders than it has places. (`have_room` of `orderly` reads counts; here they are counted.)
 pub fn have_room(n: usize, q: usize, capacity: [u32; MOST_TRAINS], train: [u8; MOST_ORDERS]) -> bool
     requires { (n ≤ order_counts.most) × (q ≤ train_counts.most) }
     ensures { result ≡ each (λ i. leb (count (λ j. eqb (at train j) i) n) (nth capacity i)) q }

@@ -20,7 +20,7 @@ pub struct Outset {
 
 // Where a search stands between rounds: each order's latest train, and its train in the last round, from which the next loading begins; the times of the last
 // round's plan, if it was recorded (better than all before); the limit and the last arrival of the pair recorded last; how many rounds were made, and whether
-// the search has ended.
+// the search has ended: a flag, as in the state that C holds, since the limit and the counts stand on after the end.
 #[derive(Clone, Copy)]
 pub struct Progress {
     pub latest: [u8; MOST_ORDERS],

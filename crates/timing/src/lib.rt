@@ -63,6 +63,7 @@ fn find_departures(sheet: AdmittedSheet, released: [u32; MOST_TRAINS]) -> Option
     let mut t: u32 = 0;
     let mut i: usize = 0;
     let mut m: usize = 0;
+    // a while over two places, of which each turn moves one
     while (i < sheet.columns.train_count) & (m < sheet.columns.window_count) {
         t = t.max(released[i]);
         if to[m] < t {
