@@ -10,7 +10,7 @@ use model::limits::{MOST_ORDERS, MOST_TRAINS};
 use rules::carried;
 use search::Outset;
 
-// Three fills and no generic one: their columns have elements of two sizes, and an array of a type parameter cannot be gone through.
+// Two fills and no generic one: their columns have elements of two sizes, and a fill over a closure would be no plainer.
 
 // The places: a gone train has them for its own orders only.
 fn places_behind(

@@ -1,16 +1,18 @@
 -- What holds where a round is begun, and what its parts ask of columns. Assumes nothing.
-use Rattle.std.specs.Prelude.{◌≡◌, refl, true, false, Some, None, List, ℕ, ℤ, suc, ◌-◌, ◌<◌, take}
+use Rattle.std.specs.Prelude.{◌≡◌, refl, Bool, true, false, not, ◌&&◌, Some, None, List, ℕ, ℤ, suc, ◌-◌, ◌<◌, ltb, take}
 use Rattle.std.proofs.Common.{sym, ap, ◌∙◌, arith, get_or-take}
 use Rattle.std.specs.Int.Signed.{lt_z}
 use Rattle.numbers.specs.Counting.{at}
-use Rattle.numbers.specs.DecidesLaws.{test_false, test_fails, one_outcome}
+use Rattle.numbers.specs.DecidesLaws.{Decides, decides_lt, decides_and, decides_not, decides_iff, test_false, test_fails, one_outcome}
 use Rattle.model.specs.Sheet.{Sheet}
 use Rattle.model.specs.Limits.{most_pairs, last_arrival}
 use Rattle.model.specs.Memory.{sheet_of}
 use Rattle.model.specs.Admission.{Admitted}
 use Rattle.model.specs.declared.Sheet as memory
 use Rattle.rounds.specs.Timing.{awaited, timed}
-use Rattle.rounds.specs.Outset.{Outset}
+use Rattle.rounds.specs.Lowering.{crowded}
+use Rattle.rounds.specs.Outset.{Outset, ordinary}
+use Rattle.rounds.specs.RoundsBound.{rounds_bound}
 use Rattle.rounds.specs.Rounds.{Search, loading_from, times_from}
 use Rattle.rounds.proofs.LoweringLaws.{decides_crowded, not_crowded}
 use Rattle.rounds.proofs.ScheduleLaws.{timed_within}
@@ -21,7 +23,7 @@ use Rattle.rounds.proofs.BoundLaws.{bound_most}
 use Rattle.columns.specs.Columns.{UpTo, Loaded}
 use Rattle.timing.specs.declared.Times.{Times}
 use Rattle.lowering.specs.Ranged.{ArrivesTo}
-use Rattle.search.specs.Shows.{Stands, goes_on, has_ended, ReachedFrom, Reached}
+use Rattle.search.specs.Shows.{Stands, goes_on, has_ended, BeginsFromOutset, ReachedFrom, Reached}
 use Rattle.search.specs.Parts.{BegunFrom, Begun, Graded}
 use Rattle.search.specs.declared.Progress.{Progress}
 
@@ -56,6 +58,19 @@ module _ (s : Sheet) (o : Outset) (a : Admitted s) (p : Progress) (b : BegunFrom
   -- a further round can be counted
   pub few_rounds : p.rounds < most_pairs
   few_rounds = omega (arith, b.within, bound_most s a)
+
+-- whether a round can be made, by tests of the latest trains and of the trains
+pub decides_begun : (s : Sheet) (p : Progress) → UpTo s.trains s.orders p.latest → {orderly : Bool} → Decides (BeginsFromOutset s (ordinary s) p) orderly
+    → (b : Bool) → b ≡ crowded s.orders s.capacity (take s.orders p.latest) s.trains
+    → Decides (Begun s p) ((orderly && not b) && ltb p.rounds (rounds_bound s))
+decides_begun s p low o b is =
+    let d = decides_crowded s.orders s.capacity (take s.orders p.latest) s.trains in
+    rw is
+    (decides_iff (λ x. record { orderly = x.0.0; latest = low; uncrowded = x.0.1; within = x.1 }) (λ x. ((x.orderly, x.uncrowded), x.within))
+    (decides_and (decides_and o (decides_iff (test_false d) (test_fails d) (decides_not d))) (decides_lt _ _)))
+
+pub not_begun : (s : Sheet) (p : Progress) → ¬ UpTo s.trains s.orders p.latest → Decides (Begun s p) false
+not_begun s p high = record { sound = λ x. absurd x; complete = λ b. high b.latest }
 
 -- step 3 of a plan that is better, and of one that is not
 module _ (p r : Progress) (t : Times) (z : ℤ) (f : ℕ) where

@@ -3,11 +3,12 @@
 #![tactic(auto)]
 
 mod fit;
-pub mod keeping;
+mod keeping;
 pub mod look;
 pub mod round;
 pub mod start;
 
+pub use keeping::no_state;
 use model::RoundReply;
 use model::limits::MOST_ORDERS;
 

@@ -77,6 +77,7 @@ pub fn round<S: AnySheet>(
             reply: said(state),
         };
     }
+    // `fits` has tested it
     let sheet = AdmittedSheet { columns: sheet };
     let next = advance(state, sheet, pairs, train_of_order, times);
     Moved {

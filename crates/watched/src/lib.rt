@@ -5,8 +5,7 @@ ghost use Rattle.std.specs.Prelude.{◌≡◌};
 
 use exported::Cause;
 use model::{Refusal, RoundReply};
-use watch::keeping::no_state;
-use watch::{Moved, State};
+use watch::{Moved, State, no_state};
 
 // What a start gives: the state, or the cause beside noughts.
 #[repr(C)]
