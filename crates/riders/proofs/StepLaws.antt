@@ -21,15 +21,15 @@ unfolding picked
 picked_next pick none test value j so_far own v passes e a b c = rw (e, a) at (rw b at c) ∙ rw add-one
 
 module _ (test : ℕ → Bool) (value : ℕ → ℕ) where
-  least_start : beyond ≡ least_of test value 0
+  pub least_start : beyond ≡ least_of test value 0
   unfolding picked
   least_start = refl
 
-  least_more : (j : ℕ) → least_of test value (j + 1) ≡ min (least_of test value j) (cond (test j) (value j) beyond)
+  pub least_more : (j : ℕ) → least_of test value (j + 1) ≡ min (least_of test value j) (cond (test j) (value j) beyond)
   unfolding picked
   least_more j = rw add-one
 
-  least_most : (j : ℕ) → least_of test value j ≤ beyond
+  pub least_most : (j : ℕ) → least_of test value j ≤ beyond
   unfolding picked
   least_most zero = omega arith
   least_most (suc j) = omega (arith, least_most j)

@@ -7,11 +7,11 @@ use Rattle.numbers.specs.Over.{over}
 use Rattle.writing.specs.declared.Page.{Page}
 use Rattle.writing.specs.Writing.{State, state, put_byte, pass, opened, Puts, Prints}
 
-pass_none : (w : Bool) (s : State) → pass w [] s ≡ s
+pub pass_none : (w : Bool) (s : State) → pass w [] s ≡ s
 unfolding pass
 pass_none w s = refl
 
-pass_append : (w : Bool) (xs ys : List ℕ) (s : State) → pass w (xs ++ ys) s ≡ pass w ys (pass w xs s)
+pub pass_append : (w : Bool) (xs ys : List ℕ) (s : State) → pass w (xs ++ ys) s ≡ pass w ys (pass w xs s)
 unfolding pass
 pass_append w [] ys s = refl
 pass_append w (x ∷ xs) ys s = pass_append w xs ys (put_byte w x s.place s.out)
@@ -39,7 +39,7 @@ puts_same e p = rw (← e) p
 
 -- ---- one byte
 
-put_short : (w : Bool) (b a : ℕ) (o : List ℕ) → length o ≤ a → pass w (b ∷ []) (state (Some a) o) ≡ state None o
+pub put_short : (w : Bool) (b a : ℕ) (o : List ℕ) → length o ≤ a → pass w (b ∷ []) (state (Some a) o) ≡ state None o
 unfolding pass put_byte
 put_short w b a o h = rw (le-ltb a (length o) h)
 
@@ -100,18 +100,19 @@ module _ (bs found : List ℕ) where
       ∙ ap (state (Some (length bs))) (sets-eq bs found 0 (omega arith) ∙ ap (λ (n : ℕ). bs ++ drop n found) all)
 
 module _ (bs found : List ℕ) {p : Option ℕ} {o : List ℕ} (e : state p o ≡ pass false bs (state (Some 0) found)) where
-  -- the counting pass came to a place: the bytes fit, and the buffer is as found
-  fits_at : (n : ℕ) → p ≡ Some n → (t : Bool) → leb (length bs) (length found) ≡ t → (t ≡ true) × (o ≡ found)
+  -- the counting pass came to a place: the bytes fit, it is their number, and the buffer is as found
+  fits_at : (n : ℕ) → p ≡ Some n → (t : Bool) → leb (length bs) (length found) ≡ t → (t ≡ true) × (n ≡ length bs) × (o ≡ found)
   fits_at n h true f =
       let x : state p o ≡ state (Some (length bs)) found = e ∙ counted_all bs found (leb-true (length bs) (length found) f) in
-      (refl, ap (λ (s : State). s.out) x)
+      let y : Some n ≡ Some (length bs) = sym h ∙ ap (λ (s : State). s.place) x in
+      (refl, (cc), ap (λ (s : State). s.out) x)
   fits_at n h false f =
       let x : state p o ≡ state None found = e ∙ short_all bs found (leb-false (length bs) (length found) f) in
       let y : Some n ≡ None = sym h ∙ ap (λ (s : State). s.place) x in
       let z : ◌≡◌ {A = ℕ} 0 1 = cc in
       absurd (omega arith)
 
-  prints_short : p ≡ None → Prints bs found None o
+  pub prints_short : p ≡ None → Prints bs found None o
   prints_short h = go (leb (length bs) (length found)) refl
     where
       go : (t : Bool) → leb (length bs) (length found) ≡ t → Prints bs found None o
@@ -124,12 +125,19 @@ module _ (bs found : List ℕ) {p : Option ℕ} {o : List ℕ} (e : state p o �
           let x : state p o ≡ state None found = e ∙ short_all bs found (leb-false (length bs) (length found) f) in
           record { answer = rw f; out = rw f (ap (λ (s : State). s.out) x) }
 
-  prints_bytes : (n : ℕ) → p ≡ Some n → {r : Option ℕ} {after : List ℕ} → state r after ≡ pass true bs (state (Some 0) o) → Prints bs found r after
-  prints_bytes n h {r} {after} g =
+  -- the writing pass answers its place, which is the one that was counted
+  prints_put : (n : ℕ) → p ≡ Some n → {r : Option ℕ} {after : List ℕ} → state r after ≡ pass true bs (state (Some 0) o) → Prints bs found r after
+  prints_put n h {r} {after} g =
       let k = fits_at n h (leb (length bs) (length found)) refl in
       let x : length bs ≤ length found = leb-true (length bs) (length found) k.0 in
-      let y : state r after ≡ state (Some (length bs)) (over bs found) = g ∙ rw k.1 (written_all bs found x) in
+      let y : state r after ≡ state (Some (length bs)) (over bs found) = g ∙ rw k.2 (written_all bs found x) in
       record { answer = rw k.0 (ap (λ (s : State). s.place) y); out = rw k.0 (ap (λ (s : State). s.out) y) }
+
+  pub prints_bytes : (n : ℕ) → p ≡ Some n → {r : Option ℕ} {after : List ℕ} → state r after ≡ pass true bs (state (Some 0) o)
+      → Prints bs found (Some n) after
+  prints_bytes n h {r} {after} g =
+      let k = fits_at n h (leb (length bs) (length found)) refl in
+      record { answer = rw k.0 (ap Some k.1); out = (prints_put n h g).out }
 
 -- the page of the first pass is left with b, and the buffer x of both is the buffer of the second one, which is left with d
 module _ {bs : List ℕ} {o : MutBor (List ℕ)} {a b : Page} (counting : a ≡ opened o false) (count : Puts bs a b) {x : List ℕ} (left : x ≡ b.out.now) where
@@ -142,4 +150,4 @@ module _ {bs : List ℕ} {o : MutBor (List ℕ)} {a b : Page} (counting : a ≡ 
   pub printed_bytes : (n : ℕ) → b.place ≡ Some n → {again : MutBor (List ℕ)} {c d : Page} → c ≡ opened again true → again.now ≡ x → Puts bs c d
       → {y : List ℕ} → y ≡ d.out.now → Prints bs o.now d.place y
   printed_bytes n h {again} writing same put e =
-      prints_bytes bs o.now passed_first n h (rw (e, ← same) (rw writing at put.passed))
+      prints_put bs o.now passed_first n h (rw (e, ← same) (rw writing at put.passed))
