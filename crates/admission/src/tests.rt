@@ -12,8 +12,8 @@ use model::{Form, Sheet, limits};
 use places::are_enough;
 
 // Test 4 of windows: a timetable has none.
-fn few_windows(sheet: Sheet) -> bool
-    ensures { result ≡ few_windows (sheet_of sheet).paths }
+fn few_windows(sheet: &Sheet) -> bool
+    ensures { result ≡ few_windows (sheet_of sheet.now).paths }
 {
     let form = sheet.form;
     match form {
@@ -23,8 +23,8 @@ fn few_windows(sheet: Sheet) -> bool
 }
 
 // Test 4: no more of a kind than allowed.
-pub fn few(sheet: Sheet) -> bool
-    ensures { result ≡ few (sheet_of sheet) }
+pub fn few(sheet: &Sheet) -> bool
+    ensures { result ≡ few (sheet_of sheet.now) }
 {
     (sheet.order_count <= limits::MOST_ORDERS)
         & (sheet.train_count <= limits::MOST_TRAINS)
@@ -32,8 +32,8 @@ pub fn few(sheet: Sheet) -> bool
 }
 
 // Test 5 of windows: a timetable needs none.
-fn some_window(sheet: Sheet) -> bool
-    ensures { result ≡ some_window (sheet_of sheet).paths }
+fn some_window(sheet: &Sheet) -> bool
+    ensures { result ≡ some_window (sheet_of sheet.now).paths }
 {
     let form = sheet.form;
     match form {
@@ -43,16 +43,16 @@ fn some_window(sheet: Sheet) -> bool
 }
 
 // Test 5: no kind is missing.
-pub fn complete(sheet: Sheet) -> bool
-    ensures { result ≡ complete (sheet_of sheet) }
+pub fn complete(sheet: &Sheet) -> bool
+    ensures { result ≡ complete (sheet_of sheet.now) }
 {
     (1 <= sheet.order_count) & (1 <= sheet.train_count) & some_window(sheet)
 }
 
 // Test 2 of the orders.
-fn orders_in_range(sheet: Sheet) -> bool
-    requires { Few (sheet_of sheet) }
-    ensures { result ≡ every (order_in_range (sheet_of sheet)) sheet.order_count }
+fn orders_in_range(sheet: &Sheet) -> bool
+    requires { Few (sheet_of sheet.now) }
+    ensures { result ≡ every (order_in_range (sheet_of sheet.now)) sheet.now.order_count }
 {
     let n = sheet.order_count;
     all_inside(&sheet.release, n, 0, limits::LAST_INSTANT)
@@ -61,9 +61,9 @@ fn orders_in_range(sheet: Sheet) -> bool
 }
 
 // Test 2 of the gap, the windows and the running times.
-fn windows_in_range(sheet: Sheet) -> bool
-    requires { (sheet.window_count ≤ window_counts.most) × (sheet.train_count ≤ train_counts.most) }
-    ensures { result ≡ paths_in_range (windows (windows_of sheet)) sheet.train_count }
+fn windows_in_range(sheet: &Sheet) -> bool
+    requires { (sheet.now.window_count ≤ window_counts.most) × (sheet.now.train_count ≤ train_counts.most) }
+    ensures { result ≡ paths_in_range (windows (windows_of sheet.now)) sheet.now.train_count }
 {
     let v = sheet.window_count;
     (limits::LEAST_GAP <= sheet.gap)
@@ -79,9 +79,9 @@ fn windows_in_range(sheet: Sheet) -> bool
 }
 
 // Test 2 of fixed departures and arrivals.
-fn times_in_range(sheet: Sheet) -> bool
-    requires { sheet.train_count ≤ train_counts.most }
-    ensures { result ≡ paths_in_range (timetable (timetable_of sheet)) sheet.train_count }
+fn times_in_range(sheet: &Sheet) -> bool
+    requires { sheet.now.train_count ≤ train_counts.most }
+    ensures { result ≡ paths_in_range (timetable (timetable_of sheet.now)) sheet.now.train_count }
 {
     let q = sheet.train_count;
     all_inside(&sheet.departure, q, 0, limits::LAST_INSTANT)
@@ -94,9 +94,9 @@ fn times_in_range(sheet: Sheet) -> bool
 }
 
 // Test 2 of what one form has and the other has not.
-fn paths_in_range(sheet: Sheet) -> bool
-    requires { Few (sheet_of sheet) }
-    ensures { result ≡ paths_in_range (sheet_of sheet).paths sheet.train_count }
+fn paths_in_range(sheet: &Sheet) -> bool
+    requires { Few (sheet_of sheet.now) }
+    ensures { result ≡ paths_in_range (sheet_of sheet.now).paths sheet.now.train_count }
 {
     let form = sheet.form;
     match form {
@@ -106,9 +106,9 @@ fn paths_in_range(sheet: Sheet) -> bool
 }
 
 // Test 2: every value is in its range.
-pub fn in_range(sheet: Sheet) -> bool
-    requires { Few (sheet_of sheet) }
-    ensures { result ≡ in_range (sheet_of sheet) }
+pub fn in_range(sheet: &Sheet) -> bool
+    requires { Few (sheet_of sheet.now) }
+    ensures { result ≡ in_range (sheet_of sheet.now) }
 {
     orders_in_range(sheet)
         & all_inside(
@@ -121,9 +121,9 @@ pub fn in_range(sheet: Sheet) -> bool
 }
 
 // Test 6 of windows: each ends no earlier than it begins, and before the next.
-fn windows_in_order(sheet: Sheet) -> bool
-    requires { sheet.window_count ≤ window_counts.most }
-    ensures { result ≡ paths_in_order (windows (windows_of sheet)) sheet.train_count }
+fn windows_in_order(sheet: &Sheet) -> bool
+    requires { sheet.now.window_count ≤ window_counts.most }
+    ensures { result ≡ paths_in_order (windows (windows_of sheet.now)) sheet.now.train_count }
 {
     let v = sheet.window_count;
     all_apart(&sheet.window_from, &sheet.window_to, v, BESIDE, 0)
@@ -131,9 +131,9 @@ fn windows_in_order(sheet: Sheet) -> bool
 }
 
 // Test 6 of a timetable: each train departs before it arrives, and departures and arrivals rise.
-fn times_in_order(sheet: Sheet) -> bool
-    requires { sheet.train_count ≤ train_counts.most }
-    ensures { result ≡ paths_in_order (timetable (timetable_of sheet)) sheet.train_count }
+fn times_in_order(sheet: &Sheet) -> bool
+    requires { sheet.now.train_count ≤ train_counts.most }
+    ensures { result ≡ paths_in_order (timetable (timetable_of sheet.now)) sheet.now.train_count }
 {
     let q = sheet.train_count;
     all_apart(&sheet.departure, &sheet.arrival, q, BESIDE, 1)
@@ -142,9 +142,9 @@ fn times_in_order(sheet: Sheet) -> bool
 }
 
 // Test 6: windows or times are in order.
-pub fn in_order(sheet: Sheet) -> bool
-    requires { Few (sheet_of sheet) }
-    ensures { result ≡ is_in_order (sheet_of sheet) }
+pub fn in_order(sheet: &Sheet) -> bool
+    requires { Few (sheet_of sheet.now) }
+    ensures { result ≡ is_in_order (sheet_of sheet.now) }
 {
     let form = sheet.form;
     match form {
@@ -154,9 +154,9 @@ pub fn in_order(sheet: Sheet) -> bool
 }
 
 // Test 7: the trains have a place for each order.
-pub fn roomy(sheet: Sheet) -> bool
-    requires { Few (sheet_of sheet) }
-    ensures { result ≡ roomy (sheet_of sheet) }
+pub fn roomy(sheet: &Sheet) -> bool
+    requires { Few (sheet_of sheet.now) }
+    ensures { result ≡ roomy (sheet_of sheet.now) }
 {
     are_enough(&sheet.capacity, sheet.train_count, sheet.order_count)
 }

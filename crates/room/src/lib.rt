@@ -40,7 +40,8 @@ fn with_room(room: bool) -> Result<(), Refusal>
     }
 }
 
-// For listing and checking, which fill the pairs area.
+// For listing and checking, which fill the pairs area. Inlined, as the next ones are, since it hands on a whole sheet.
+#[inline(always)]
 pub fn for_listing(sheet: Sheet, pairs: usize) -> Result<AdmittedSheet, Refusal>
     ensures tests { of_reply result ≡ tested (sheet_of sheet) (list_room (sheet_of sheet) pairs) }
     ensures same { IfOk result (λ a. a.columns ≡ sheet) }
@@ -51,6 +52,7 @@ pub fn for_listing(sheet: Sheet, pairs: usize) -> Result<AdmittedSheet, Refusal>
 }
 
 // For choosing, which fills the areas for trains and times.
+#[inline(always)]
 pub fn for_choosing(sheet: Sheet, trains: usize, times: usize) -> Result<AdmittedSheet, Refusal>
     ensures tests { of_reply result ≡ tested (sheet_of sheet) (plan_room (sheet_of sheet) trains times) }
     ensures same { IfOk result (λ a. a.columns ≡ sheet) }
@@ -62,7 +64,24 @@ pub fn for_choosing(sheet: Sheet, trains: usize, times: usize) -> Result<Admitte
     Ok(sheet)
 }
 
-// For a search by rounds, which fills all three.
+// For a search by rounds, which fills all three: the tests of a lent sheet.
+pub fn test_for_search(
+    sheet: &Sheet,
+    pairs: usize,
+    trains: usize,
+    times: usize,
+) -> Result<(), Refusal>
+    ensures { result ≡ tested (sheet_of sheet.now) (search_room (sheet_of sheet.now) pairs trains times) }
+{
+    admission::test_sheet(sheet)?;
+    let sheet = AdmittedSheet { columns: *sheet };
+    let n = sheet.columns.order_count;
+    let q = sheet.columns.train_count;
+    with_room(holds_pairs(sheet, pairs) & holds_plan(n, q, trains, times))
+}
+
+// The same, and the sheet with the fact that it is admitted.
+#[inline(always)]
 pub fn for_search(
     sheet: Sheet,
     pairs: usize,
@@ -72,9 +91,6 @@ pub fn for_search(
     ensures tests { of_reply result ≡ tested (sheet_of sheet) (search_room (sheet_of sheet) pairs trains times) }
     ensures same { IfOk result (λ a. a.columns ≡ sheet) }
 {
-    let sheet = admission::admit(sheet)?;
-    let n = sheet.columns.order_count;
-    let q = sheet.columns.train_count;
-    with_room(holds_pairs(sheet, pairs) & holds_plan(n, q, trains, times))?;
-    Ok(sheet)
+    test_for_search(&sheet, pairs, trains, times)?;
+    Ok(AdmittedSheet { columns: sheet })
 }

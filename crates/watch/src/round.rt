@@ -62,7 +62,13 @@ pub fn round<S: AnySheet>(
         (all_areas pairs.old train_of_order.old times.old) }
 {
     let sheet = sheet.to_sheet();
-    if !fits(state, sheet, pairs.len(), train_of_order.len(), times.len()) {
+    if !fits(
+        state,
+        &sheet,
+        pairs.len(),
+        train_of_order.len(),
+        times.len(),
+    ) {
         return Moved {
             state,
             reply: RoundReply::Ended {

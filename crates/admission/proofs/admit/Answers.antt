@@ -1,63 +1,7 @@
--- `admit` meets its contract: test 4 refuses, and else `first_refusal` gives what the other tests leave; a sheet that passes all is admitted. Assumes nothing.
-use Rattle.std.proofs.Common.{◌≡◌, Bool, true, sym, ◌∙◌}
-use Rattle.numbers.specs.DecidesLaws.{test_means}
-use Rattle.model.specs.Sheet.{Sheet}
-use Rattle.model.specs.Admission.{Few, few, complete, in_range, is_in_order, roomy, admission}
-use Rattle.model.specs.Replies.{Admission}
-use Rattle.model.proofs.AdmissionLaws.{decides_few, admitted_means}
-use Rattle.std.proofs.lemmas.Result.{err_from_is_err_and}
-use Rattle.admission.specs.FirstRefusal.{first_refusal}
+-- `admit` meets its contract: a sheet that passes all tests is admitted. Assumes nothing.
+use Rattle.std.proofs.Common.{sym, ◌∙◌}
+use Rattle.model.proofs.AdmissionLaws.{admitted_means}
 use Rattle.admission.proofs.admit.Goals as goal
 
-few_passed : (s : Sheet) {b : Bool} → b ≡ few s → b ≡ true → few s ≡ true
-few_passed s e h = sym e ∙ h
-
-few_holds : (s : Sheet) {b : Bool} → b ≡ few s → b ≡ true → Few s
-few_holds s e h = test_means (decides_few s) (few_passed s e h)
-
--- a sheet that passes test 4 has the answer of the other tests
-others : (s : Sheet) → few s ≡ true → first_refusal (complete s) (in_range s) (is_in_order s) (roomy s) ≡ admission s
-unfolding admission
-others s h = rw h
-
--- what the tests of this sheet say together
-said : (s : Sheet) {four five two six seven : Bool} {a : Admission} → four ≡ few s → four ≡ true → five ≡ complete s → two ≡ in_range s
-    → six ≡ is_in_order s → seven ≡ roomy s → a ≡ first_refusal five two six seven → a ≡ admission s
-said s four passed five two six seven e = e ∙ (rw (five, two, six, seven) (others s (few_passed s four passed)))
-
-pub returns-then-not-few-clause-tests : goal.returns-then-not-few-clause-tests
-unfolding admission
-returns-then-not-few-clause-tests c = rw (sym c.few.ensures ∙ c.if-not-few.true)
-
-pub in_range-in_range-requires : goal.in_range-in_range-requires
-in_range-in_range-requires c = few_holds _ c.few.ensures c.if-not-few.false
-
-pub in_order-in_order-requires : goal.in_order-in_order-requires
-in_order-in_order-requires c = few_holds _ c.few.ensures c.if-not-few.false
-
-pub roomy-roomy-requires : goal.roomy-roomy-requires
-roomy-roomy-requires c = few_holds _ c.few.ensures c.if-not-few.false
-
-pub returns-in_err-first_refusal-clause-tests : goal.returns-in_err-first_refusal-clause-tests
-returns-in_err-first_refusal-clause-tests c =
-    let p = err_from_is_err_and c.from_residual.result c.from_residual.ensures.1 in
-    rw (p.1, p.2)
-    (sym c.in_err-first_refusal.was
-    ∙ said _ c.few.ensures c.if-not-few.false c.complete-complete.ensures c.in_range-in_range.ensures c.in_order-in_order.ensures c.roomy-roomy.ensures
-    c.first_refusal.ensures)
-
 pub invariant_of-result : goal.invariant_of-result
-invariant_of-result c =
-    record {
-      admitted = (admitted_means _).0
-          (sym
-          (said _ c.few.ensures c.if-not-few.false c.complete-complete.ensures c.in_range-in_range.ensures c.in_order-in_order.ensures
-          c.roomy-roomy.ensures c.first_refusal.ensures)
-          ∙ c.in_ok-first_refusal.was);
-    }
-
-pub returns-clause-tests : goal.returns-clause-tests
-returns-clause-tests c =
-    sym c.in_ok-first_refusal.was
-    ∙ said _ c.few.ensures c.if-not-few.false c.complete-complete.ensures c.in_range-in_range.ensures c.in_order-in_order.ensures c.roomy-roomy.ensures
-    c.first_refusal.ensures
+invariant_of-result c = record { admitted = (admitted_means _).0 (sym c.test_sheet.ensures ∙ c.in_ok-test_sheet.was) }

@@ -1,5 +1,5 @@
 -- `room::for_choosing` meets its contract: the first of tests 4, 5, 2, 6, 7 that fails, else 10. Assumes nothing.
-use Rattle.std.proofs.Common.{◌≡◌, sym, ap, ◌∙◌}
+use Rattle.std.proofs.Common.{sym, ap, ◌∙◌}
 use Rattle.std.proofs.lemmas.Result.{err_from_is_err_and}
 use Rattle.model.specs.Memory.{sheet_of}
 use Rattle.model.specs.declared.Sheet.{Sheet}

@@ -7,5 +7,5 @@ use Rattle.admission.proofs.tests.in_range.Goals as goal
 pub returns : goal.returns
 unfolding in_range
 returns c =
-    let m = c.args.sheet in
+    let m = c.args.sheet.now in
     cc (inside_numbered capacity_range m.capacity m.train_count)

@@ -3,4 +3,4 @@ use Rattle.admission.proofs.ColumnTestLaws.{orders_range}
 use Rattle.admission.proofs.tests.orders_in_range.Goals as goal
 
 pub returns : goal.returns
-returns c = (cc (orders_range c.args.sheet))
+returns c = (cc (orders_range c.args.sheet.now))

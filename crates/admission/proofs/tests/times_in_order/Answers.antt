@@ -3,4 +3,4 @@ use Rattle.admission.proofs.ColumnTestLaws.{times_order}
 use Rattle.admission.proofs.tests.times_in_order.Goals as goal
 
 pub returns : goal.returns
-returns c = (cc (times_order c.args.sheet))
+returns c = (cc (times_order c.args.sheet.now))

@@ -3,4 +3,4 @@ use Rattle.admission.proofs.ColumnTestLaws.{times_range}
 use Rattle.admission.proofs.tests.times_in_range.Goals as goal
 
 pub returns : goal.returns
-returns c = (cc (times_range c.args.sheet))
+returns c = (cc (times_range c.args.sheet.now))

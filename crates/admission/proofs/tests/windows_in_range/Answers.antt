@@ -3,4 +3,4 @@ use Rattle.admission.proofs.ColumnTestLaws.{windows_range}
 use Rattle.admission.proofs.tests.windows_in_range.Goals as goal
 
 pub returns : goal.returns
-returns c = (cc (windows_range c.args.sheet))
+returns c = (cc (windows_range c.args.sheet.now))
