@@ -12,7 +12,7 @@ use lowering::{is_crowded, lateness, lower};
 use model::admitted::AdmittedSheet;
 
 // One round of a search that goes on: steps 1 and 2, which may stop it, then 3, and 4 and 5 at the limit. Places and instants are the outset's.
-pub fn round_from(progress: Progress, sheet: AdmittedSheet, outset: Outset) -> Progress
+pub fn round_from(mut progress: Progress, sheet: AdmittedSheet, outset: Outset) -> Progress
     requires sets { Sets (sheet_of sheet.columns) (outset_of sheet.columns.order_count outset) }
     requires ended_value { (progress.ended ≡ false) × BegunFrom (sheet_of sheet.columns) (outset_of sheet.columns.order_count outset) progress }
     ensures is { MakesFrom (sheet_of sheet.columns) (outset_of sheet.columns.order_count outset) progress result }
@@ -24,29 +24,27 @@ pub fn round_from(progress: Progress, sheet: AdmittedSheet, outset: Outset) -> P
     let latest = progress.latest;
     let release = &sheet.columns.release;
     let train = loading::load(n, q, release, capacity, &latest, progress.train);
-    let mut next = Progress {
-        recorded: None,
-        rounds: progress.rounds + 1,
-        ended: true,
-        ..progress
-    };
-    if let Some(timed) = timing::time_trains_since(sheet, train, outset.since) {
+    let times = timing::time_trains_since(sheet, train, outset.since);
+    progress.recorded = None;
+    progress.rounds += 1;
+    progress.ended = true;
+    if let Some(timed) = times {
         let weight = sheet.columns.weight;
         let due = sheet.columns.due;
         let arrival = timed.arrival;
         let worst = lateness::worst_of(n, weight, due, train, arrival);
         let last = columns::last_of(arrival, q);
-        if worst < next.limit {
-            next.recorded = Some(timed);
-            next.limit = worst;
-            next.last = last;
+        if worst < progress.limit {
+            progress.recorded = Some(timed);
+            progress.limit = worst;
+            progress.last = last;
         }
-        let lowered = lower(n, weight, due, arrival, next.limit, latest);
-        next.ended = is_crowded(n, q, capacity, lowered);
-        next.latest = lowered;
-        next.train = train;
+        let lowered = lower(n, weight, due, arrival, progress.limit, latest);
+        progress.ended = is_crowded(n, q, capacity, lowered);
+        progress.latest = lowered;
+        progress.train = train;
     }
-    next
+    progress
 }
 
 // One round of a search from the sheet alone.

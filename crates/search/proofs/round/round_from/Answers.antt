@@ -25,7 +25,7 @@ use Rattle.search.proofs.RoundLaws.{round_stopped, round_made}
 use Rattle.search.specs.declared.Outset as memory
 use Rattle.search.specs.declared.Progress.{Progress}
 use Rattle.search.proofs.round.round_from.Goals as goal
-use Rattle.search.proofs.round.round_from.Goals.{then-worst-next, else-worst-next}
+use Rattle.search.proofs.round.round_from.Goals.{then-worst-progress, else-worst-progress}
 
 -- where the round is begun
 module _ (m : sheet.Sheet) (o : memory.Outset) (p : Progress) (admitted : Admitted (sheet_of m))
@@ -68,14 +68,14 @@ module _ (m : sheet.Sheet) (o : memory.Outset) (p : Progress) (admitted : Admitt
 pub load-train-requires : goal.load-train-requires
 load-train-requires c = to_load c.args.sheet.columns c.args.outset c.args.progress c.args.sheet.admitted c.requires.sets c.requires.ended_value.1
 
-pub time_trains_since-requires : goal.time_trains_since-requires
-time_trains_since-requires c =
+pub time_trains_since-times-requires : goal.time_trains_since-times-requires
+time_trains_since-times-requires c =
     loaded_column (sheet_of c.args.sheet.columns) c.load-train.result
     (rides c.args.sheet.columns c.args.outset c.args.progress c.args.sheet.admitted c.requires.sets c.requires.ended_value.1 c.load-train.result
     c.load-train.ensures)
 
-pub overflow_add-next : goal.overflow_add-next
-overflow_add-next c =
+pub overflow_add-progress : goal.overflow_add-progress
+overflow_add-progress c =
     omega (
       arith,
       few_rounds (sheet_of c.args.sheet.columns) (outset_of c.args.sheet.columns.order_count c.args.outset) c.args.sheet.admitted c.args.progress
@@ -93,7 +93,7 @@ worst_of-worst-requires c =
           (loaded_column (sheet_of m) c.load-train.result (rides c.args.sheet.columns c.args.outset c.args.progress c.args.sheet.admitted c.requires.sets b
           c.load-train.result c.load-train.ensures))
           (in_time c.args.sheet.columns c.args.outset c.args.progress c.args.sheet.admitted c.requires.sets b c.load-train.result c.load-train.ensures
-          c.time_trains_since.result c.time_trains_since.ensures
+          c.time_trains_since-times.result c.time_trains_since-times.ensures
           c.in-Some.timed c.in-Some.is),
     )
 
@@ -105,7 +105,7 @@ lower-lowered-requires c =
       in_ranges m a,
       arrives_to m a c.in-Some.timed.arrival c.args.progress.latest
           (in_time c.args.sheet.columns c.args.outset c.args.progress c.args.sheet.admitted c.requires.sets b c.load-train.result c.load-train.ensures
-          c.time_trains_since.result c.time_trains_since.ensures
+          c.time_trains_since-times.result c.time_trains_since-times.ensures
           c.in-Some.timed c.in-Some.is)
           b.latest,
     )
@@ -117,8 +117,8 @@ is_crowded-requires c =
     let h = c.requires.sets in
     (a.few.orders, a.few.trains, places_few m a c.args.outset h, places_enough m a c.args.outset h)
 
-pub returns-after-worst-next-clause-is : goal.returns-after-worst-next-clause-is
-returns-after-worst-next-clause-is c =
+pub returns-after-worst-progress-clause-is : goal.returns-after-worst-progress-clause-is
+returns-after-worst-progress-clause-is c =
     let m = c.args.sheet.columns in
     let a = c.args.sheet.admitted in
     let b = c.requires.ended_value.1 in
@@ -134,21 +134,21 @@ returns-after-worst-next-clause-is c =
     (rides m c.args.outset p c.args.sheet.admitted c.requires.sets b train c.load-train.ensures) in
     let last_is = c.last_of-last.ensures
     ∙ sym (get_or-take m.train_count its.arrival (m.train_count - 1) 0 (omega (arith, a.complete.trains))) in
-    let r = c.if-worst-next.next in
+    let r = c.if-worst-progress.progress in
     let graded : (r.rounds ≡ p.rounds + 1) × Graded p r its (worst (sheet_of m) (take m.order_count train) (nth (take m.train_count its.arrival)))
     (nth (take m.train_count its.arrival) m.train_count) =
-    elim c.if-worst-next.branch [
-      | then-worst-next w ↦
-          let better = rw (same_worst ∙ worst_is, limit_is, limit_is) at w.if-worst-next.true in (
-            ap (λ (r : Progress). r.rounds) w.next-is,
-            graded_better p r its _ _ better (ap (λ (r : Progress). r.recorded) w.next-is)
-                (ap (λ (r : Progress). r.limit) w.next-is ∙ same_worst ∙ worst_is) (ap (λ (r : Progress). r.last) w.next-is ∙ last_is),
+    elim c.if-worst-progress.branch [
+      | then-worst-progress w ↦
+          let better = rw (same_worst ∙ worst_is, limit_is) at w.if-worst-progress.true in (
+            ap (λ (r : Progress). r.rounds) w.progress-is,
+            graded_better p r its _ _ better (ap (λ (r : Progress). r.recorded) w.progress-is)
+                (ap (λ (r : Progress). r.limit) w.progress-is ∙ same_worst ∙ worst_is) (ap (λ (r : Progress). r.last) w.progress-is ∙ last_is),
           )
-      | else-worst-next w ↦
-          let worse = rw (same_worst ∙ worst_is, limit_is, limit_is) at w.if-worst-next.false in (
-            ap (λ (r : Progress). r.rounds) w.next-is,
-            graded_worse p r its _ _ worse (ap (λ (r : Progress). r.recorded) w.next-is)
-                (ap (λ (r : Progress). r.limit) w.next-is ∙ limit_is) (ap (λ (r : Progress). r.last) w.next-is),
+      | else-worst-progress w ↦
+          let worse = rw (same_worst ∙ worst_is, limit_is) at w.if-worst-progress.false in (
+            ap (λ (r : Progress). r.rounds) w.progress-is,
+            graded_worse p r its _ _ worse (ap (λ (r : Progress). r.recorded) w.progress-is)
+                (ap (λ (r : Progress). r.limit) w.progress-is) (ap (λ (r : Progress). r.last) w.progress-is),
           )
     ] in
     let left : SFits w64 r.limit = search rules in
@@ -158,7 +158,7 @@ returns-after-worst-next-clause-is c =
     let lowered = rw (to_z-of_z {w = w64} left) at c.lower-lowered.ensures
     ∙ lower_taken (at m.weight) (at m.due) its.arrival r.limit latest m.train_count m.order_count low in
     round_made (sheet_of m) (outset_of m.order_count c.args.outset) p _ c.requires.ended_value.0 graded.0 its b.latest c.load-train.ensures
-    (made m c.args.outset p c.args.sheet.admitted c.requires.sets b train c.load-train.ensures _ c.time_trains_since.ensures c.in-Some.timed
+    (made m c.args.outset p c.args.sheet.admitted c.requires.sets b train c.load-train.ensures _ c.time_trains_since-times.ensures c.in-Some.timed
     c.in-Some.is) graded.1
     (lowered, c.is_crowded.ensures)
 
@@ -169,5 +169,5 @@ returns-in_default-clause-is c =
     b.orderly
     (rw c.in_default.is at (timings c.args.sheet.columns c.args.outset c.args.progress c.args.sheet.admitted c.requires.sets b c.load-train.result
     c.load-train.ensures
-    c.time_trains_since.result c.time_trains_since.ensures))
+    c.time_trains_since-times.result c.time_trains_since-times.ensures))
     refl refl refl
