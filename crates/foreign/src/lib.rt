@@ -27,9 +27,9 @@ pub fn before_rows() -> Given
     }
 }
 
-// One more row.
-pub fn with_row(mut given: Given, order: u32, train: u32) -> Given
-    ensures { result ≡ row_added given order train }
+// One more row, put into the column where it stands.
+fn add_row(given: &mut Given, order: u32, train: u32)
+    ensures { given.new ≡ row_added given.old order train }
 {
     let known = in_range(1, MOST_ORDERS as u32, order) & in_range(1, MOST_TRAINS as u32, train);
     if known && given.train[(order - 1) as usize] == 0 {
@@ -37,6 +37,13 @@ pub fn with_row(mut given: Given, order: u32, train: u32) -> Given
     } else {
         given.sound = false;
     }
+}
+
+// One more row.
+pub fn with_row(mut given: Given, order: u32, train: u32) -> Given
+    ensures { result ≡ row_added given order train }
+{
+    add_row(&mut given, order, train);
     given
 }
 
@@ -46,7 +53,7 @@ pub fn gather(rows: &[Row]) -> Given
 {
     let mut given = before_rows();
     for row in rows {
-        given = with_row(given, row.order, row.train);
+        add_row(&mut given, row.order, row.train);
     }
     given
 }

@@ -13,4 +13,4 @@ unfolding gathered
 loop-row-preserved c =
     let l = c.loop-row in
     let rows = c.args.rows.now in
-    rw add-one (c.with_row-given.ensures ∙ ap (λ g. row_added g (row_at rows l.row-index).order (row_at rows l.row-index).train) l.invariant)
+    rw add-one (c.add_row.ensures ∙ ap (λ g. row_added g (row_at rows l.row-index).order (row_at rows l.row-index).train) l.invariant)

@@ -2,8 +2,8 @@
 use Rattle.std.proofs.Common.{sym, rules}
 use Rattle.numbers.specs.DecidesLaws.{test_means, test_fails}
 use Rattle.foreign.proofs.RowAddedLaws.{decides_known, row_taken, row_not_taken, met_before}
-use Rattle.foreign.proofs.with_row.Goals as goal
-use Rattle.foreign.proofs.with_row.Goals.{else-known-via-then-known+else-given-order-eq0, else-known-via-else-known}
+use Rattle.foreign.proofs.add_row.Goals as goal
+use Rattle.foreign.proofs.add_row.Goals.{else-known-via-then-known+else-given-order-eq0, else-known-via-else-known}
 
 pub returns-then-given-order-eq0 : goal.returns-then-given-order-eq0
 returns-then-given-order-eq0 c =
