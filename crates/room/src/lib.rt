@@ -40,7 +40,7 @@ fn with_room(room: bool) -> Result<(), Refusal>
     }
 }
 
-// For listing and checking, which fill the pairs area. Inlined, as the next ones are, since it hands on a whole sheet.
+// For listing and checking, which fill the pairs area. Inlined, as the other two are, since it hands on a whole sheet.
 #[inline(always)]
 pub fn for_listing(sheet: Sheet, pairs: usize) -> Result<AdmittedSheet, Refusal>
     ensures tests { of_reply result ≡ tested (sheet_of sheet) (list_room (sheet_of sheet) pairs) }
